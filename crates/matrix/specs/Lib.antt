@@ -1,0 +1,10 @@
+pub mod Ranges
+pub mod Grants
+pub mod Standing
+pub mod Count
+pub mod Refusals
+pub mod Calls
+pub mod Enters
+pub mod Tables
+pub mod Listed
+pub mod Stored
