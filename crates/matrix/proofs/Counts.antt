@@ -8,7 +8,7 @@ use native.Mathlib.Nat.{mul-assoc}
 use Rattle.matrix.specs.Count.{sum-below, grant, cell-count, count}
 use Rattle.matrix.specs.Grants.{same-grant, in-range}
 use Rattle.matrix.specs.declared.grants.Grant.{Grant}
-use Rattle.matrix.proofs.Sums.{sum-same, sum-bump, sum-le, sum-add}
+use Rattle.matrix.proofs.Sums.{sum-same, sum-bump, sum-zero, sum-le, sum-add}
 use Rattle.matrix.proofs.Fillings.{range-in}
 use Rattle.matrix.proofs.Alikes.{same-self}
 use Rattle.std.proofs.shelf.Tests.{or-right}
@@ -77,3 +77,8 @@ pub count-add : (n : ℕ) (f g h : Grant → Bool) → ((x : Grant) → one (f x
 unfolding count cell-count
 count-add n f g h e =
     sum-add n _ _ _ (λ r. sum-add n _ _ _ (λ c. sum-add 32 _ _ _ (λ k. e (grant (suc k) (suc r) (suc c)))))
+
+-- where no right is let through
+pub count-none : (n : ℕ) → count n (λ _. false) ≡ 0
+unfolding count cell-count
+count-none n = sum-zero n _ (λ r. sum-zero n _ (λ c. sum-zero 32 _ (λ k. refl)))

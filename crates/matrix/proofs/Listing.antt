@@ -13,7 +13,7 @@ use Rattle.std.proofs.shelf.Tests.{cases-bool}
 use Rattle.std.proofs.shelf.Ways.{tells}
 use Rattle.records.specs.First.{first, first-from}
 use Rattle.records.specs.Bounded.{addition}
-use Rattle.records.specs.declared.bounded.Addition.the-variants.{Added, AlreadyThere, Full}
+use Rattle.records.specs.declared.Addition.the-variants.{Added, AlreadyThere, Full}
 use Rattle.matrix.specs.Grants.{same-grant}
 use Rattle.matrix.specs.Listed.{listed}
 use Rattle.matrix.specs.declared.grants.Grant.{Grant}

@@ -6,17 +6,22 @@ use Prim.Native.Nat.{ℕ, _+_, _≤_, _<_}
 use native.Mathlib.Omega.{arith}
 use lib.Dec.{eqb, ltb}
 use Rattle.std.specs.Options.{isSome}
+use Rattle.std.specs.Results.{isErr}
+use Rattle.std.specs.declared.result.Result.{Result}
+use Rattle.std.specs.declared.result.Result.the-variants.{Ok, Err}
 use Rattle.std.specs.declared.option.Option.{Option}
 use Rattle.std.specs.declared.option.Option.the-variants.{Some, None}
-use Rattle.std.proofs.shelf.Tests.{and-parts, and-from, or-cases}
+use Rattle.std.proofs.shelf.Tests.{and-parts, and-from, or-cases, cases-bool, false≢true}
 use Rattle.std.proofs.shelf.Ways.{tells}
 use Rattle.matrix.specs.Ranges.{within}
 use Rattle.matrix.specs.Grants.{same-grant, names, in-range}
 use Rattle.matrix.specs.Standing.{Standing, Meaning, stands, entered, deleted, created, destroyed}
-use Rattle.matrix.specs.Refusals.{cell-judged, create-judged, destroy-judged, delete-refusal, enter-refusal}
+use Rattle.matrix.specs.Refusals.{refusal, cell-judged, create-judged, destroy-judged, delete-refusal, enter-refusal}
 use Rattle.matrix.specs.Tables.{table-places, table-type, put-type, only-types}
-use Rattle.matrix.specs.Stored.{shows, Sound}
+use Rattle.matrix.specs.Stored.{shows, Sound, typed-within}
 use Rattle.matrix.specs.declared.grants.Grant.{Grant}
+use Rattle.matrix.specs.declared.faults.MatrixFault.{MatrixFault}
+use Rattle.matrix.specs.declared.faults.MatrixFault.the-variants.{OutOfRange, WrongFilling, NoRoom}
 use Rattle.matrix.specs.declared.tables.PlaceTable.{PlaceTable}
 use Rattle.matrix.proofs.Alikes.{same-is}
 
@@ -106,3 +111,36 @@ module _ (t t′ : PlaceTable) (p : ℕ) (size : table-places t′ ≡ table-pla
         others h a = (grind (arith, tells), grind (arith, tells))
         still : (q : ℕ) → eqb q p ≡ false → isSome (table-type t q) ≡ true → isSome (table-type t′ q) ≡ true
         still q d s = ap (λ (types : ℕ → Option ℕ). isSome (types q)) types-destroyed ∙ ap (λ (b : Bool). isSome (cond b None (table-type t q))) d ∙ s
+
+-- a stored right passes range and filling
+pub sound-fits : (t : PlaceTable) (f : Grant → Bool) (g : Grant) → Sound t f → f g ≡ true
+    → 0 ≡ cell-judged (table-places t) (table-type t (g .row)) (table-type t (g .column)) g
+sound-fits t f g sound held =
+    let s = sound g held in
+    let parts = and-parts _ _ (and-parts _ _ s .1) in
+    passes (table-places t) (table-type t (g .row)) (table-type t (g .column)) (and-parts _ _ s .0) (parts .0) (parts .1)
+    (filled-within (g .row) (table-type t (g .row)) refl (parts .0)) (filled-within (g .column) (table-type t (g .column)) refl (parts .1))
+  where
+    filled-within : (p : ℕ) (o : Option ℕ) → table-type t p ≡ o → isSome o ≡ true → within p (table-places t) ≡ true
+    filled-within p (Some k) is h = typed-within t p k is .0
+    filled-within p None is h = absurd (false≢true h)
+    passes : (n : ℕ) (row column : Option ℕ) → within (g .right) 32 ≡ true → isSome row ≡ true → isSome column ≡ true
+        → within (g .row) n ≡ true → within (g .column) n ≡ true → 0 ≡ cell-judged n row column g
+    passes n row column a b d e h = grind (arith, tells)
+
+-- an answer that is an error has a number, and one that is none has 0
+pub err-number : (r : Result (Unit {0}) MatrixFault) → isErr r ≡ true → 0 ≡ refusal r → ⊥
+err-number (Ok x) e z = false≢true e
+err-number (Err OutOfRange) e z = omega arith
+err-number (Err WrongFilling) e z = omega arith
+err-number (Err NoRoom) e z = omega arith
+
+pub ok-number : (r : Result (Unit {0}) MatrixFault) → isErr r ≡ false → 0 ≡ refusal r
+ok-number (Ok x) e = refl
+ok-number (Err f) e = absurd (false≢true (sym e))
+
+-- so what is refused is not stored
+pub refused-unheld : (t : PlaceTable) (f : Grant → Bool) (g : Grant) (r : Result (Unit {0}) MatrixFault) → Sound t f → isErr r ≡ true
+    → refusal r ≡ cell-judged (table-places t) (table-type t (g .row)) (table-type t (g .column)) g → f g ≡ false
+refused-unheld t f g r sound e is =
+    ⊎-elim (λ (h : f g ≡ true). absurd (err-number r e (sound-fits t f g sound h ∙ sym is))) (λ h. h) (cases-bool (f g))

@@ -27,7 +27,7 @@ pub few-places : (t : PlaceTable) → table-places t ≤ 128
 unfolding table-places
 few-places t = omega arith
 
-typed-within : (t : PlaceTable) (p k : ℕ) → table-type t p ≡ Some k → (within p (table-places t) ≡ true) × (within k 16 ≡ true)
+pub typed-within : (t : PlaceTable) (p k : ℕ) → table-type t p ≡ Some k → (within p (table-places t) ≡ true) × (within k 16 ≡ true)
 unfolding table-type
 typed-within t p k h = place (within p (table-places t)) h
   where

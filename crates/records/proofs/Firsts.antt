@@ -1,4 +1,4 @@
--- One step of a search for the first record that passes. Assumes nothing.
+-- One step of a search for the first record that passes.
 use mathlib.Core.Path.{_≡_, refl, sym, ap, _∙_}
 use mathlib.Core.Bool.{Bool, true, false, cond}
 use mathlib.Core.List.{List, [], _∷_}

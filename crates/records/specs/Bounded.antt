@@ -1,23 +1,14 @@
--- What a bounded list holds, and what its calls tell and leave.
+-- What the calls of a bounded list tell and leave.
 use mathlib.Core.Bool.{Bool, true, false, cond}
 use mathlib.Core.List.{List, [], _∷_, _++_}
 use Prim.Native.Nat.{ℕ}
-use lib.ListN.{length, take}
+use lib.ListN.{length}
 use lib.Dec.{ltb}
 use Rattle.std.specs.Options.{isSome}
 use Rattle.std.specs.Holes.{removed}
 use Rattle.records.specs.First.{first}
-use Rattle.records.specs.declared.bounded.Addition.{Addition}
-use Rattle.records.specs.declared.bounded.Addition.the-variants.{Added, AlreadyThere, Full}
-use Rattle.records.specs.declared.bounded.BoundedList.{BoundedList}
-
--- the records in use, in order
-abbrev pub items : {X : Type 0} → BoundedList X → List X
-items l = take (l .used) (l .records .now)
-
--- how many records the memory takes
-abbrev pub capacity : {X : Type 0} → BoundedList X → ℕ
-capacity l = length (l .records .now)
+use Rattle.records.specs.declared.Addition.{Addition}
+use Rattle.records.specs.declared.Addition.the-variants.{Added, AlreadyThere, Full}
 
 -- what becomes of a record that is to join xs where there is memory for n: sameness is looked at first
 abbrev pub addition : {X : Type 0} → (X → Bool) → ℕ → List X → Addition
