@@ -3,10 +3,11 @@ use mathlib.Core.Path.{_≡_, refl, sym, ap, ap₂, subst, fun-ext, _∙_}
 use mathlib.Core.Bool.{Bool, true, false, cond, _&&_, _||_, not}
 use mathlib.Core.Logic.{⊎-elim}
 use Prim.Native.Nat.{ℕ, _+_, _≤_, _<_}
+use native.Mathlib.Nat.{add-zero}
 use native.Mathlib.Omega.{arith}
 use lib.Dec.{eqb, ltb}
 use Rattle.std.specs.Options.{isSome}
-use Rattle.std.specs.Results.{isErr}
+use Rattle.std.specs.Results.{isOk}
 use Rattle.std.specs.declared.result.Result.{Result}
 use Rattle.std.specs.declared.result.Result.the-variants.{Ok, Err}
 use Rattle.std.specs.declared.option.Option.{Option}
@@ -14,6 +15,7 @@ use Rattle.std.specs.declared.option.Option.the-variants.{Some, None}
 use Rattle.std.proofs.shelf.Tests.{and-parts, and-from, or-cases, cases-bool, false≢true}
 use Rattle.std.proofs.shelf.Ways.{tells}
 use Rattle.matrix.specs.Ranges.{within}
+use Rattle.matrix.specs.Calls.{Entered}
 use Rattle.matrix.specs.Grants.{same-grant, names, in-range}
 use Rattle.matrix.specs.Standing.{Standing, Meaning, stands, entered, deleted, created, destroyed}
 use Rattle.matrix.specs.Refusals.{refusal, cell-judged, create-judged, destroy-judged, delete-refusal, enter-refusal}
@@ -24,6 +26,7 @@ use Rattle.matrix.specs.declared.faults.MatrixFault.{MatrixFault}
 use Rattle.matrix.specs.declared.faults.MatrixFault.the-variants.{OutOfRange, WrongFilling, NoRoom}
 use Rattle.matrix.specs.declared.tables.PlaceTable.{PlaceTable}
 use Rattle.matrix.proofs.Alikes.{same-is}
+use Rattle.matrix.proofs.Listing.{held-again}
 
 -- what an accepted judgement says of a grant
 pub cell-fits : (n : ℕ) (row column : Option ℕ) (g : Grant) → 0 ≡ cell-judged n row column g
@@ -112,35 +115,49 @@ module _ (t t′ : PlaceTable) (p : ℕ) (size : table-places t′ ≡ table-pla
         still : (q : ℕ) → eqb q p ≡ false → isSome (table-type t q) ≡ true → isSome (table-type t′ q) ≡ true
         still q d s = ap (λ (types : ℕ → Option ℕ). isSome (types q)) types-destroyed ∙ ap (λ (b : Bool). isSome (cond b None (table-type t q))) d ∙ s
 
--- a stored right passes range and filling
-pub sound-fits : (t : PlaceTable) (f : Grant → Bool) (g : Grant) → Sound t f → f g ≡ true
-    → 0 ≡ cell-judged (table-places t) (table-type t (g .row)) (table-type t (g .column)) g
-sound-fits t f g sound held =
-    let s = sound g held in
-    let parts = and-parts _ _ (and-parts _ _ s .1) in
-    passes (table-places t) (table-type t (g .row)) (table-type t (g .column)) (and-parts _ _ s .0) (parts .0) (parts .1)
-    (filled-within (g .row) (table-type t (g .row)) refl (parts .0)) (filled-within (g .column) (table-type t (g .column)) refl (parts .1))
-  where
-    filled-within : (p : ℕ) (o : Option ℕ) → table-type t p ≡ o → isSome o ≡ true → within p (table-places t) ≡ true
-    filled-within p (Some k) is h = typed-within t p k is .0
-    filled-within p None is h = absurd (false≢true h)
-    passes : (n : ℕ) (row column : Option ℕ) → within (g .right) 32 ≡ true → isSome row ≡ true → isSome column ≡ true
-        → within (g .row) n ≡ true → within (g .column) n ≡ true → 0 ≡ cell-judged n row column g
-    passes n row column a b d e h = grind (arith, tells)
+-- where a type means a place of 1 to n, a right at filled places passes range and filling
+module _ (s : Standing) (types : (p t : ℕ) → s .type-at p ≡ Some t → (within p (s .places) ≡ true) × (within t 16 ≡ true)) (g : Grant) where
+  pub stands-in-range : stands (s .type-at) g ≡ true → in-range (s .places) g ≡ true
+  stands-in-range h =
+      let f = and-parts (within (g .right) 32) (isSome (s .type-at (g .row)) && isSome (s .type-at (g .column))) h in
+      let k = and-parts (isSome (s .type-at (g .row))) (isSome (s .type-at (g .column))) (f .1) in
+      and-from _ _ (f .0) (and-from _ _ (filled (g .row) (s .type-at (g .row)) refl (k .0)) (filled (g .column) (s .type-at (g .column)) refl (k .1)))
+    where
+      filled : (p : ℕ) (o : Option ℕ) → s .type-at p ≡ o → isSome o ≡ true → within p (s .places) ≡ true
+      filled p (Some t) is e = types p t is .0
+      filled p None is e = absurd (false≢true e)
 
--- an answer that is an error has a number, and one that is none has 0
-pub err-number : (r : Result (Unit {0}) MatrixFault) → isErr r ≡ true → 0 ≡ refusal r → ⊥
-err-number (Ok x) e z = false≢true e
-err-number (Err OutOfRange) e z = omega arith
-err-number (Err WrongFilling) e z = omega arith
-err-number (Err NoRoom) e z = omega arith
+  fits : stands (s .type-at) g ≡ true → 0 ≡ cell-judged (s .places) (s .type-at (g .row)) (s .type-at (g .column)) g
+  fits h = passes (in-range (s .places) g) _ (stands-in-range h) (and-parts (within (g .right) 32) _ h .1)
+    where
+      passes : (a b : Bool) → a ≡ true → b ≡ true → _≡_ {A = ℕ} 0 (cond a (cond b 0 6) 5)
+      passes a b e f = grind (arith, e, f)
 
-pub ok-number : (r : Result (Unit {0}) MatrixFault) → isErr r ≡ false → 0 ≡ refusal r
+  -- so a right that is refused stands nowhere
+  pub refused-stands : (r : Result (Unit {0}) MatrixFault) → refusal r ≡ cell-judged (s .places) (s .type-at (g .row)) (s .type-at (g .column)) g
+      → isOk r ≡ false → stands (s .type-at) g ≡ false
+  refused-stands r is e = ⊎-elim (λ (h : stands (s .type-at) g ≡ true). absurd (numbered r e (fits h ∙ sym is))) (λ h. h) (cases-bool (stands (s .type-at) g))
+    where
+      numbered : (r : Result (Unit {0}) MatrixFault) → isOk r ≡ false → 0 ≡ refusal r → ⊥
+      numbered (Ok x) e z = false≢true (sym e)
+      numbered (Err OutOfRange) e z = omega arith
+      numbered (Err WrongFilling) e z = omega arith
+      numbered (Err NoRoom) e z = omega arith
+
+-- and is not stored
+pub refused-unheld : (t : PlaceTable) (f : Grant → Bool) (g : Grant) (r : Result (Unit {0}) MatrixFault) → Sound t f
+    → refusal r ≡ cell-judged (table-places t) (table-type t (g .row)) (table-type t (g .column)) g → isOk r ≡ false → f g ≡ false
+refused-unheld t f g r sound is e =
+    ⊎-elim (λ (h : f g ≡ true). absurd (false≢true (sym (refused-stands (shows t f) (typed-within t) g r is e) ∙ sound g h))) (λ h. h) (cases-bool (f g))
+
+-- an answer without a refusal has no number
+pub ok-number : (r : Result (Unit {0}) MatrixFault) → isOk r ≡ true → 0 ≡ refusal r
 ok-number (Ok x) e = refl
-ok-number (Err f) e = absurd (false≢true (sym e))
+ok-number (Err f) e = absurd (false≢true e)
 
--- so what is refused is not stored
-pub refused-unheld : (t : PlaceTable) (f : Grant → Bool) (g : Grant) (r : Result (Unit {0}) MatrixFault) → Sound t f → isErr r ≡ true
-    → refusal r ≡ cell-judged (table-places t) (table-type t (g .row)) (table-type t (g .column)) g → f g ≡ false
-refused-unheld t f g r sound e is =
-    ⊎-elim (λ (h : f g ≡ true). absurd (err-number r e (sound-fits t f g sound h ∙ sym is))) (λ h. h) (cases-bool (f g))
+-- a right that is held is entered without a change
+pub entered-again : (m : Meaning) (g : Grant) → m .standing .held g ≡ true → Entered m g m
+entered-again m g held = record {
+  standing = λ i. record { places = m .standing .places; type-at = m .standing .type-at; held = fun-ext (λ h. held-again (m .standing .held) g h held) i };
+  room = ap (λ (b : Bool). m .room + cond b 0 1) held ∙ add-zero (m .room);
+}

@@ -30,7 +30,7 @@ impl<'a, T: Same + Copy> BoundedList<'a, T> {
     pub fn len(&self) -> usize
         ensures { λ r. ⌜ r ≡ length (items (now (self .entry))) ⌝ }
     {
-        self.used.min(self.records.len())
+        crate::len(self.records, self.used)
     }
 
     // How many more records the memory takes.

@@ -1,6 +1,7 @@
 // One bounded list for every kind of record that can tell sameness: a slice of records and the number in use.
 ghost use mathlib.Core.Path.{_≡_};
 ghost use mathlib.Core.Bool.{Bool, true};
+ghost use Prim.Native.Nat.{_≤_};
 ghost use lib.Dec.{ltb};
 ghost use lib.ListN.{length, take};
 ghost use Rattle.std.specs.shelf.Maps.{nth};
@@ -48,15 +49,23 @@ fn first_same<T: Same>(records: &[T], wanted: &T) -> Option<usize>
 pub fn find<T: Same>(records: &[T], used: usize, wanted: &T) -> Option<usize>
     ensures { λ r. ⌜ r ≡ first (alike (now (wanted .entry))) (take used (now (records .entry))) ⌝ }
 {
-    let n = used.min(records.len());
+    let n = len(records, used);
     first_same(&records[0..n], wanted)
+}
+
+// How many records are in use: as many as the number says, or all.
+pub fn len<T>(records: &[T], used: usize) -> usize
+    ensures value { λ r. ⌜ r ≡ length (take used (now (records .entry))) ⌝ }
+    ensures bound { λ r. ⌜ r ≤ length (now (records .entry)) ⌝ }
+{
+    used.min(records.len())
 }
 
 // The record at a position, from 0, if one is in use there.
 pub fn at<T: Copy>(records: &[T], used: usize, position: usize) -> Option<T>
     ensures { λ r. ⌜ r ≡ nth (take used (now (records .entry))) position ⌝ }
 {
-    if position < used.min(records.len()) {
+    if position < len(records, used) {
         Some(records[position])
     } else {
         None
@@ -87,7 +96,7 @@ pub fn take_out<T: Copy>(records: &mut [T], used: &mut usize, position: usize) -
     ensures after { λ r. ⌜ take (now (used .exit)) (now (records .exit)) ≡ with-out r position (take (now (used .entry)) (now (records .entry))) ⌝ }
     ensures same { λ r. ⌜ unless r ((now (records .exit) ≡ now (records .entry)) × (now (used .exit) ≡ now (used .entry))) ⌝ }
 {
-    let n = (*used).min(records.len());
+    let n = len(records, *used);
     if position >= n {
         return false;
     }

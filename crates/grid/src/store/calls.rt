@@ -49,7 +49,7 @@ pub impl Matrix for Grid<'_> as GridMatrix {
     }
 
     fn is_held(&self, grant: Grant) -> bool {
-        if self.table.judge_grant(grant).is_err() {
+        if !self.table.judge_grant(grant).is_ok() {
             return false;
         }
         self.cells[cell_of(grant, self.table.places())] >> (grant.right - 1) & 1 == 1

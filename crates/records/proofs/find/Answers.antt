@@ -1,10 +1,9 @@
 use mathlib.Core.Path.{_≡_, ap, _∙_}
-use mathlib.Core.List.{List}
-use Prim.Native.Nat.{ℕ, _-_}
+use Prim.Native.Nat.{ℕ}
 use native.Mathlib.Omega.{arith}
 use lib.ListN.{take}
 use Rattle.records.specs.First.{first}
-use Rattle.records.proofs.Fronts.{take-min}
+use Rattle.records.proofs.Fronts.{take-front}
 use Rattle.records.proofs.find.Needs as need
 
 pub returns : need.returns
@@ -12,5 +11,5 @@ returns g c =
     let xs = c .args .records .now in
     let p = g .T·Same .alike (c .args .wanted .now) in
     c .first-same .ensures
-    ∙ ap (λ (n : ℕ). first p (take n xs)) (omega (arith, c .min-n .ensures))
-    ∙ ap (first p) (take-min (c .args .used) xs)
+    ∙ ap (λ (n : ℕ). first p (take n xs)) (omega (arith, c .len-n .ensures .value))
+    ∙ ap (first p) (take-front (c .args .used) xs)

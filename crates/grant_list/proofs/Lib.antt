@@ -1,0 +1,4 @@
+pub mod Members
+pub mod Filters
+pub mod Standings
+pub mod Outcomes
