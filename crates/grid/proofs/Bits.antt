@@ -38,11 +38,11 @@ pub bit-pow-other : (j k : ℕ) → j ≢ k → bit j (2 ^ k) ≡ 0
 bit-pow-other j k d = ⊎-elim
     (λ (e : j ≡ k). absurd (d e))
     (⊎-elim
-      (λ (h : j < k).
-        let m = k - suc j in
-        let split : 2 ^ k ≡ (2 ^ m * 2) * 2 ^ j = ap (λ (z : ℕ). 2 ^ z) (omega arith) ∙ pow-add 2 (suc m) j ∙ ap (λ (z : ℕ). z * 2 ^ j) (pow-suc 2 m) in
-        ap (λ (z : ℕ). z / 2 ^ j % 2) split ∙ ap (λ (z : ℕ). z % 2) (shl-shr (2 ^ m * 2) j) ∙ mul-mod-left (2 ^ m) 2)
-      (λ (h : k < j). ap (λ (z : ℕ). z % 2) (div-eq-of-lt (pow-below k j h))))
+    (λ (h : j < k).
+    let m = k - suc j in
+    let split : 2 ^ k ≡ (2 ^ m * 2) * 2 ^ j = ap (λ (z : ℕ). 2 ^ z) (omega arith) ∙ pow-add 2 (suc m) j ∙ ap (λ (z : ℕ). z * 2 ^ j) (pow-suc 2 m) in
+    ap (λ (z : ℕ). z / 2 ^ j % 2) split ∙ ap (λ (z : ℕ). z % 2) (shl-shr (2 ^ m * 2) j) ∙ mul-mod-left (2 ^ m) 2)
+    (λ (h : k < j). ap (λ (z : ℕ). z % 2) (div-eq-of-lt (pow-below k j h))))
     (cases-order j k)
 
 -- setting a bit: which are set then
@@ -66,7 +66,7 @@ ones-below zero c h = let z : c ≡ 0 = omega arith in ap ones z ∙ ones-zero
 ones-below (suc d) c h =
     ones-step c
     ∙ ap (λ (z : ℕ). c % 2 + z) (ones-below d (c / 2) (shr-below c d 1 (subst (λ (z : ℕ). c < 2 ^ z) (sym (add-one d)) h))
-      ∙ sum-same d (λ k. bit (suc k) c) (λ k. bit k (c / 2)) (λ i l. ap (λ (z : ℕ). z % 2) (shr-shr c 1 i ∙ ap (λ (z : ℕ). c / 2 ^ z) (omega arith))))
+    ∙ sum-same d (λ k. bit (suc k) c) (λ k. bit k (c / 2)) (λ i l. ap (λ (z : ℕ). z % 2) (shr-shr c 1 i ∙ ap (λ (z : ℕ). c / 2 ^ z) (omega arith))))
     ∙ sym (sum-first d (λ k. bit k c) ∙ ap (λ (z : ℕ). z % 2 + sum-below d (λ k. bit (suc k) c)) (div-one c))
 
 pub ones-bits : (c : ℕ) → c < 2 ^ 32 → ones c ≡ bits c

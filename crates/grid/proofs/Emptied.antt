@@ -24,7 +24,7 @@ module _ (t t′ : PlaceTable) (cells cells′ : List ℕ) (p : ℕ) (size : tab
       ≡ count (table-places t) (in-cells (table-places t) cells′) + count (table-places t) (λ g. in-cells (table-places t) cells g && names p g)
   split =
       count-add (table-places t) (in-cells (table-places t) cells) (in-cells-but p (table-places t) cells) (λ g. in-cells (table-places t) cells g && names p g)
-        (λ g. parts (in-cells (table-places t) cells g) (names p g))
+      (λ g. parts (in-cells (table-places t) cells g) (names p g))
       ∙ sym (ap (λ (f : Grant → Bool). count (table-places t) f + count (table-places t) (λ g. in-cells (table-places t) cells g && names p g)) gone)
     where
       parts : (a b : Bool) → _≡_ {A = ℕ} (cond a 1 0) (cond (a && not b) 1 0 + cond (a && b) 1 0)
@@ -38,6 +38,6 @@ module _ (t t′ : PlaceTable) (cells cells′ : List ℕ) (p : ℕ) (size : tab
   pub destroyed : Destroyed (meaning-of t cells) p (meaning-of t′ cells′)
   destroyed = record {
     standing = destroyed-shows t t′ p size put ok (in-cells (table-places t) cells) (in-cells (table-places t′) cells′)
-      (λ h. ap (λ (n : ℕ). in-cells n cells′ h) size ∙ ap (λ (f : Grant → Bool). f h) gone);
+        (λ h. ap (λ (n : ℕ). in-cells n cells′ h) size ∙ ap (λ (f : Grant → Bool). f h) gone);
     room = omega (arith, split, room-kept, count-le (table-places t) (in-cells (table-places t) cells));
   }

@@ -33,13 +33,13 @@ counted : (n : ℕ) (f f′ : Grant → Bool) (g : Grant) → in-range n g ≡ t
     → count n f′ ≡ count n f + cond (f g) 0 1
 counted n f f′ g range is = ap (count n) (fun-ext is) ∙ ⊎-elim
     (λ (h : f g ≡ true).
-      let none : _≡_ {A = ℕ} (cond (f g) 0 1) 0 = ap (λ (b : Bool). cond b 0 1) h in
-      let same : count n (λ x. f x || same-grant x g) ≡ count n f = sym (ap (count n) (fun-ext (λ x. held-again f g x h))) in
-      omega arith)
+    let none : _≡_ {A = ℕ} (cond (f g) 0 1) 0 = ap (λ (b : Bool). cond b 0 1) h in
+    let same : count n (λ x. f x || same-grant x g) ≡ count n f = sym (ap (count n) (fun-ext (λ x. held-again f g x h))) in
+    omega arith)
     (λ (h : f g ≡ false).
-      let one : _≡_ {A = ℕ} (cond (f g) 0 1) 1 = ap (λ (b : Bool). cond b 0 1) h in
-      let more : count n (λ x. f x || same-grant x g) ≡ count n f + 1 = count-more n f g range h in
-      omega arith)
+    let one : _≡_ {A = ℕ} (cond (f g) 0 1) 1 = ap (λ (b : Bool). cond b 0 1) h in
+    let more : count n (λ x. f x || same-grant x g) ≡ count n f + 1 = count-more n f g range h in
+    omega arith)
     (cases-bool (f g))
 
 -- y is written into the cell of a grant that passes range and filling
@@ -82,9 +82,9 @@ module _ (t : PlaceTable) (cells : List ℕ) (g : Grant) (whole : table-places t
     accepted = enter-goes (meaning-of t cells) g ok (⊎-elim
         (λ (h : in-cells (table-places t) cells g ≡ true). or-left _ _ h)
         (λ (h : in-cells (table-places t) cells g ≡ false).
-          let one : _≡_ {A = ℕ} (cond (in-cells (table-places t) cells g) 0 1) 1 = ap (λ (b : Bool). cond b 0 1) h in
-          or-right (in-cells (table-places t) cells g) _
-          (lt-ltb _ _ (omega (arith, one, more, count-le (table-places t) (in-cells (table-places t) (set cells at (bitOr (getD cells at 0) mask)))))))
+        let one : _≡_ {A = ℕ} (cond (in-cells (table-places t) cells g) 0 1) 1 = ap (λ (b : Bool). cond b 0 1) h in
+        or-right (in-cells (table-places t) cells g) _
+        (lt-ltb _ _ (omega (arith, one, more, count-le (table-places t) (in-cells (table-places t) (set cells at (bitOr (getD cells at 0) mask)))))))
         (cases-bool (in-cells (table-places t) cells g)))
 
     module _ (held : in-cells (table-places t) cells g ≡ true) where
@@ -105,13 +105,16 @@ module _ (t : PlaceTable) (cells : List ℕ) (g : Grant) (whole : table-places t
           restored true false f = refl
           restored false true f = f refl
           restored false false f = refl
+
           back : (h : Grant) → in-cells (table-places t) cells h ≡ (in-cells (table-places t) (set cells at (bitXor (getD cells at 0) mask)) h || same-grant h g)
           back h =
               restored (in-cells (table-places t) cells h) (same-grant h g) (λ e. ap (in-cells (table-places t) cells) (same-is h g e) ∙ held)
               ∙ sym (ap (λ (b : Bool). b || same-grant h g) (in-deleted h))
+
           none : (a : Bool) → (a && false) ≡ false
           none true = refl
           none false = refl
+
           gone : in-cells (table-places t) (set cells at (bitXor (getD cells at 0) mask)) g ≡ false
           gone = in-deleted g ∙ ap (λ (b : Bool). in-cells (table-places t) cells g && not b) (same-self g) ∙ none (in-cells (table-places t) cells g)
 
@@ -119,6 +122,6 @@ module _ (t : PlaceTable) (cells : List ℕ) (g : Grant) (whole : table-places t
       deleted = record {
         standing = deleted-shows t _ _ g in-deleted;
         room =
-          let one : _≡_ {A = ℕ} (cond (in-cells (table-places t) cells g) 1 0) 1 = ap (λ (b : Bool). cond b 1 0) held in
-          omega (arith, one, fewer, count-le (table-places t) (in-cells (table-places t) cells));
+            let one : _≡_ {A = ℕ} (cond (in-cells (table-places t) cells g) 1 0) 1 = ap (λ (b : Bool). cond b 1 0) held in
+            omega (arith, one, fewer, count-le (table-places t) (in-cells (table-places t) cells));
       }

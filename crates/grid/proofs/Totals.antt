@@ -43,13 +43,15 @@ module _ (n : ℕ) (cells : List ℕ) where
   right-bit r c k hr hc hk =
       one (bit k (getD cells (r * n + c) 0)) (bit-lt k (getD cells (r * n + c) 0))
       ∙ ap (λ (b : Bool). cond b 1 0)
-        (ap₂ (λ (j i : ℕ). eqb (bit j (getD cells i 0)) 1) (back k) (ap₂ (λ (y z : ℕ). y * n + z) (back r) (back c))
-        ∙ sym (bit-decides n cells (grant (suc k) (suc r) (suc c)) (inside k r c hr hc hk)))
+      (ap₂ (λ (j i : ℕ). eqb (bit j (getD cells i 0)) 1) (back k) (ap₂ (λ (y z : ℕ). y * n + z) (back r) (back c))
+      ∙ sym (bit-decides n cells (grant (suc k) (suc r) (suc c)) (inside k r c hr hc hk)))
     where
       one : (b : ℕ) → b < 2 → b ≡ cond (eqb b 1) 1 0
       one b h = grind (arith, tells)
+
       back : (p : ℕ) → p ≡ suc p - 1
       back p = omega arith
+
       inside : (k r c : ℕ) → r < n → c < n → k < 32 → in-range n (grant (suc k) (suc r) (suc c)) ≡ true
       inside k r c hr hc hk = grind (arith, tells)
 
@@ -66,4 +68,4 @@ module _ (n : ℕ) (cells : List ℕ) where
       ∙ sum-same (n * n) (λ i. bits (getD cells i 0)) (λ i. bits (getD (take (n * n) cells) i 0)) (λ i h. ap bits (getD-take (n * n) cells i 0 h))
       ∙ sum-rows n n (λ i. bits (getD cells i 0))
       ∙ sum-same n (λ r. sum-below n (λ c. cell-count (in-cells n cells) (suc r) (suc c))) (λ r. sum-below n (λ c. bits (getD cells (r * n + c) 0)))
-        (λ r hr. sum-same n (λ c. cell-count (in-cells n cells) (suc r) (suc c)) (λ c. bits (getD cells (r * n + c) 0)) (λ c hc. cell-bits r c hr hc))
+      (λ r hr. sum-same n (λ c. cell-count (in-cells n cells) (suc r) (suc c)) (λ c. bits (getD cells (r * n + c) 0)) (λ c hc. cell-bits r c hr hc))

@@ -28,9 +28,9 @@ use Rattle.grid.proofs.Places.{cell-row, cell-column}
 set-zero : (xs : List ℕ) (j x : ℕ) → getD xs x 0 ≡ 0 → getD (set xs j 0) x 0 ≡ 0
 set-zero xs j x z = ⊎-elim
     (λ (e : x ≡ j). ⊎-elim
-      (λ (h : j < length xs). ap (λ (i : ℕ). getD (set xs j 0) i 0) e ∙ getD-set-same xs j 0 0 h)
-      (λ (h : length xs ≤ j). ap (λ (l : List ℕ). getD l x 0) (set-past xs j 0 h) ∙ z)
-      (cases-lt j (length xs)))
+    (λ (h : j < length xs). ap (λ (i : ℕ). getD (set xs j 0) i 0) e ∙ getD-set-same xs j 0 0 h)
+    (λ (h : length xs ≤ j). ap (λ (l : List ℕ). getD l x 0) (set-past xs j 0 h) ∙ z)
+    (cases-lt j (length xs)))
     (λ (d : x ≢ j). getD-set-other xs j x 0 0 d ∙ z)
     (cases-eq x j)
 
@@ -38,9 +38,9 @@ set-zero xs j x z = ⊎-elim
 set-either : (xs : List ℕ) (j x : ℕ) → (getD (set xs j 0) x 0 ≡ getD xs x 0) ⊎ (getD (set xs j 0) x 0 ≡ 0)
 set-either xs j x = ⊎-elim
     (λ (e : x ≡ j). ⊎-elim
-      (λ (h : j < length xs). inr (ap (λ (i : ℕ). getD (set xs j 0) i 0) e ∙ getD-set-same xs j 0 0 h))
-      (λ (h : length xs ≤ j). inl (ap (λ (l : List ℕ). getD l x 0) (set-past xs j 0 h)))
-      (cases-lt j (length xs)))
+    (λ (h : j < length xs). inr (ap (λ (i : ℕ). getD (set xs j 0) i 0) e ∙ getD-set-same xs j 0 0 h))
+    (λ (h : length xs ≤ j). inl (ap (λ (l : List ℕ). getD l x 0) (set-past xs j 0 h)))
+    (cases-lt j (length xs)))
     (λ (d : x ≢ j). inl (getD-set-other xs j x 0 0 d))
     (cases-eq x j)
 
@@ -53,9 +53,9 @@ unfolding in-cells
 zero-less n cells j h e =
     let f = and-parts (in-range n h) _ e in
     and-from _ _ (f .0) (⊎-elim
-      (λ (same : getD (set cells j 0) (cell-at n h) 0 ≡ getD cells (cell-at n h) 0). sym (ap (λ (x : ℕ). eqb (bit (h .right - 1) x) 1) same) ∙ f .1)
-      (λ (zero : getD (set cells j 0) (cell-at n h) 0 ≡ 0). absurd (false≢true (sym (no-bit (h .right - 1) _ zero) ∙ f .1)))
-      (set-either cells j (cell-at n h)))
+    (λ (same : getD (set cells j 0) (cell-at n h) 0 ≡ getD cells (cell-at n h) 0). sym (ap (λ (x : ℕ). eqb (bit (h .right - 1) x) 1) same) ∙ f .1)
+    (λ (zero : getD (set cells j 0) (cell-at n h) 0 ≡ 0). absurd (false≢true (sym (no-bit (h .right - 1) _ zero) ∙ f .1)))
+    (set-either cells j (cell-at n h)))
 
 pub sound-zero : (t : PlaceTable) (cells : List ℕ) (j : ℕ) → Sound t (in-cells (table-places t) cells) → Sound t (in-cells (table-places t) (set cells j 0))
 sound-zero t cells j sound = sound-less t _ _ sound (zero-less (table-places t) cells j)
@@ -97,18 +97,23 @@ wiped n p old new at kept row column = fun-ext (λ h. guard h (in-range n h) ref
     none : (a b : Bool) → a ≡ false → a ≡ (b && false)
     none a true e = e
     none a false e = e
+
     all : (a b : Bool) → a ≡ b → a ≡ (b && true)
     all a true e = e
     all a false e = e
+
     named : (p : ℕ) (h : Grant) → names p h ≡ true → (h .row ≡ p) ⊎ (h .column ≡ p)
     named p h e = ⊎-elim (λ (f : eqb (h .row) p ≡ true). inl (eqb-true (h .row) p f)) (λ (f : eqb (h .column) p ≡ true). inr (eqb-true (h .column) p f)) (or-cases (eqb (h .row) p) (eqb (h .column) p) e)
+
     apart : (p : ℕ) (h : Grant) → names p h ≡ false → (h .row ≢ p) × (h .column ≢ p)
     apart p h e =
         let f = or-parts (eqb (h .row) p) (eqb (h .column) p) e in
         ((λ (q : h .row ≡ p). false≢true (sym (f .0) ∙ eq-eqb (h .row) p q)), (λ (q : h .column ≡ p). false≢true (sym (f .1) ∙ eq-eqb (h .column) p q)))
+
     cleared : (h : Grant) → in-range n h ≡ true → (h .row ≡ p) ⊎ (h .column ≡ p) → getD new (cell-at n h) 0 ≡ 0
     cleared h i (inl e) = let r = range-in n h i in ap (λ (x : ℕ). getD new ((x - 1) * n + (h .column - 1)) 0) e ∙ row (h .column - 1) (omega arith)
     cleared h i (inr e) = let r = range-in n h i in ap (λ (x : ℕ). getD new ((h .row - 1) * n + (x - 1)) 0) e ∙ column (h .row - 1) (omega arith)
+
     as-before : (h : Grant) → in-range n h ≡ true → (h .row ≢ p) × (h .column ≢ p) → getD new (cell-at n h) 0 ≡ getD old (cell-at n h) 0
     as-before h i d =
         let r = range-in n h i in
@@ -116,10 +121,12 @@ wiped n p old new at kept row column = fun-ext (λ h. guard h (in-range n h) ref
         kept (cell-at n h)
         (λ (e : cell-at n h / n ≡ p - 1). d .0 (omega (arith, e, cell-row n h i)))
         (λ (e : cell-at n h % n ≡ p - 1). d .1 (omega (arith, e, cell-column n h i)))
+
     by-name : (h : Grant) → in-range n h ≡ true → (b : Bool) → names p h ≡ b
         → eqb (bit (h .right - 1) (getD new (cell-at n h) 0)) 1 ≡ (eqb (bit (h .right - 1) (getD old (cell-at n h) 0)) 1 && not b)
     by-name h i true e = none _ _ (no-bit (h .right - 1) _ (cleared h i (named p h e)))
     by-name h i false e = all _ _ (ap (λ (x : ℕ). eqb (bit (h .right - 1) x) 1) (as-before h i (apart p h e)))
+
     guard : (h : Grant) (b : Bool) → in-range n h ≡ b
         → (b && eqb (bit (h .right - 1) (getD new (cell-at n h) 0)) 1) ≡ ((b && eqb (bit (h .right - 1) (getD old (cell-at n h) 0)) 1) && not (names p h))
     guard h true i = by-name h i (names p h) refl

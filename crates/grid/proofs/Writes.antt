@@ -31,20 +31,21 @@ module _ (n : ℕ) (cells : List ℕ) (g : Grant) (whole : n * n ≤ length cell
       → on (h .right - 1) (getD (set cells (cell-at n g) y) (cell-at n h) 0) ≡ op (on (h .right - 1) (getD cells (cell-at n h) 0)) (same-grant h g)
   bit-after h j = ⊎-elim
       (λ (e : cell-at n h ≡ cell-at n g).
-        let old : getD cells (cell-at n h) 0 ≡ getD cells (cell-at n g) 0 = ap (λ (i : ℕ). getD cells i 0) e in
-        let new : getD (set cells (cell-at n g) y) (cell-at n h) 0 ≡ y =
-          ap (λ (i : ℕ). getD (set cells (cell-at n g) y) i 0) e ∙ getD-set-same cells (cell-at n g) y 0 (omega (arith, cell-lt n g range)) in
-        ap (on (h .right - 1)) new ∙ bits-are (h .right - 1)
-        ∙ ap₂ op (sym (ap (on (h .right - 1)) old)) (by-right h (range-in n g range) (range-in n h j) (cell-one n g h range j e)))
+      let old : getD cells (cell-at n h) 0 ≡ getD cells (cell-at n g) 0 = ap (λ (i : ℕ). getD cells i 0) e in
+      let new : getD (set cells (cell-at n g) y) (cell-at n h) 0 ≡ y =
+      ap (λ (i : ℕ). getD (set cells (cell-at n g) y) i 0) e ∙ getD-set-same cells (cell-at n g) y 0 (omega (arith, cell-lt n g range)) in
+      ap (on (h .right - 1)) new ∙ bits-are (h .right - 1)
+      ∙ ap₂ op (sym (ap (on (h .right - 1)) old)) (by-right h (range-in n g range) (range-in n h j) (cell-one n g h range j e)))
       (λ (d : cell-at n h ≢ cell-at n g).
-        ap (on (h .right - 1)) (getD-set-other cells (cell-at n g) (cell-at n h) y 0 d)
-        ∙ sym (keeps _) ∙ sym (ap (op (on (h .right - 1) (getD cells (cell-at n h) 0))) (differs h d)))
+      ap (on (h .right - 1)) (getD-set-other cells (cell-at n g) (cell-at n h) y 0 d)
+      ∙ sym (keeps _) ∙ sym (ap (op (on (h .right - 1) (getD cells (cell-at n h) 0))) (differs h d)))
       (cases-eq (cell-at n h) (cell-at n g))
     where
       by-right : (h : Grant) → (1 ≤ g .right) × (g .right ≤ 32) × (1 ≤ g .row) × (g .row ≤ n) × (1 ≤ g .column) × (g .column ≤ n)
           → (1 ≤ h .right) × (h .right ≤ 32) × (1 ≤ h .row) × (h .row ≤ n) × (1 ≤ h .column) × (h .column ≤ n)
           → (h .row ≡ g .row) × (h .column ≡ g .column) → eqb (h .right - 1) (g .right - 1) ≡ same-grant h g
       by-right h i j e = grind (arith, tells)
+
       differs : (h : Grant) → cell-at n h ≢ cell-at n g → same-grant h g ≡ false
       differs h d = ⊎-elim (λ (e : same-grant h g ≡ true). absurd (d (ap (cell-at n) (same-is h g e)))) (λ f. f) (cases-bool (same-grant h g))
 
@@ -73,18 +74,20 @@ module _ (n : ℕ) (cells : List ℕ) (g : Grant) (whole : n * n ≤ length cell
       or-false : (b : Bool) → (b || false) ≡ b
       or-false true = refl
       or-false false = refl
+
       spread : (a b t : Bool) → (t ≡ true → a ≡ true) → (a && (b || t)) ≡ ((a && b) || t)
       spread true b t f = refl
       spread false b true f = absurd (let z : false ≡ true = f refl in let y : _≡_ {A = ℕ} 0 1 = cc in omega arith)
       spread false b false f = refl
+
       set-bits : (k : ℕ) → on k (bitOr (getD cells (cell-at n g) 0) (2 ^ (g .right - 1))) ≡ (on k (getD cells (cell-at n g) 0) || eqb k (g .right - 1))
       set-bits k = ⊎-elim
           (λ (e : k ≡ g .right - 1).
-            ap (λ (b : ℕ). eqb b 1) (ap (λ (j : ℕ). bit j (bitOr (getD cells (cell-at n g) 0) (2 ^ (g .right - 1)))) e ∙ bit-set-same (g .right - 1) (getD cells (cell-at n g) 0))
-            ∙ sym (or-true (on k (getD cells (cell-at n g) 0)) (eqb k (g .right - 1)) (eq-eqb k (g .right - 1) e)))
+          ap (λ (b : ℕ). eqb b 1) (ap (λ (j : ℕ). bit j (bitOr (getD cells (cell-at n g) 0) (2 ^ (g .right - 1)))) e ∙ bit-set-same (g .right - 1) (getD cells (cell-at n g) 0))
+          ∙ sym (or-true (on k (getD cells (cell-at n g) 0)) (eqb k (g .right - 1)) (eq-eqb k (g .right - 1) e)))
           (λ (d : k ≢ g .right - 1).
-            ap (λ (b : ℕ). eqb b 1) (bit-set-other k (g .right - 1) (getD cells (cell-at n g) 0) d)
-            ∙ sym (ap (λ (b : Bool). on k (getD cells (cell-at n g) 0) || b) (ne-eqb k (g .right - 1) d) ∙ or-false _))
+          ap (λ (b : ℕ). eqb b 1) (bit-set-other k (g .right - 1) (getD cells (cell-at n g) 0) d)
+          ∙ sym (ap (λ (b : Bool). on k (getD cells (cell-at n g) 0) || b) (ne-eqb k (g .right - 1) d) ∙ or-false _))
           (cases-eq k (g .right - 1))
         where
           or-true : (a b : Bool) → b ≡ true → (a || b) ≡ true
@@ -99,19 +102,22 @@ module _ (n : ℕ) (cells : List ℕ) (g : Grant) (whole : n * n ≤ length cell
       and-true : (b : Bool) → (b && true) ≡ b
       and-true true = refl
       and-true false = refl
+
       regroup : (a b t : Bool) → (a && (b && t)) ≡ ((a && b) && t)
       regroup true b t = refl
       regroup false b t = refl
+
       and-false : (a : Bool) → (a && false) ≡ false
       and-false true = refl
       and-false false = refl
+
       clear-bits : (k : ℕ) → on k (bitXor (getD cells (cell-at n g) 0) (2 ^ (g .right - 1))) ≡ (on k (getD cells (cell-at n g) 0) && not (eqb k (g .right - 1)))
       clear-bits k = ⊎-elim
           (λ (e : k ≡ g .right - 1).
-            ap (λ (b : ℕ). eqb b 1) (ap (λ (j : ℕ). bit j (bitXor (getD cells (cell-at n g) 0) (2 ^ (g .right - 1)))) e
-              ∙ bit-clear-same (g .right - 1) (getD cells (cell-at n g) 0) (held-in n cells g held .1))
-            ∙ sym (ap (λ (b : Bool). on k (getD cells (cell-at n g) 0) && not b) (eq-eqb k (g .right - 1) e) ∙ and-false _))
+          ap (λ (b : ℕ). eqb b 1) (ap (λ (j : ℕ). bit j (bitXor (getD cells (cell-at n g) 0) (2 ^ (g .right - 1)))) e
+          ∙ bit-clear-same (g .right - 1) (getD cells (cell-at n g) 0) (held-in n cells g held .1))
+          ∙ sym (ap (λ (b : Bool). on k (getD cells (cell-at n g) 0) && not b) (eq-eqb k (g .right - 1) e) ∙ and-false _))
           (λ (d : k ≢ g .right - 1).
-            ap (λ (b : ℕ). eqb b 1) (bit-clear-other k (g .right - 1) (getD cells (cell-at n g) 0) d)
-            ∙ sym (ap (λ (b : Bool). on k (getD cells (cell-at n g) 0) && not b) (ne-eqb k (g .right - 1) d) ∙ and-true _))
+          ap (λ (b : ℕ). eqb b 1) (bit-clear-other k (g .right - 1) (getD cells (cell-at n g) 0) d)
+          ∙ sym (ap (λ (b : Bool). on k (getD cells (cell-at n g) 0) && not b) (ne-eqb k (g .right - 1) d) ∙ and-true _))
           (cases-eq k (g .right - 1))

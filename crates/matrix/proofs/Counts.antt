@@ -31,8 +31,12 @@ cell-le f r c = sum-le 32 1 (λ k. one (f (grant (suc k) r c))) (λ k. one-le (f
 
 pub count-le : (n : ℕ) (f : Grant → Bool) → count n f ≤ 32 * (n * n)
 unfolding count
-count-le n f = omega (arith, sum-le n (n * 32) (λ r. sum-below n (λ c. cell-count f (suc r) (suc c)))
-    (λ r. sum-le n 32 (λ c. cell-count f (suc r) (suc c)) (λ c. cell-le f (suc r) (suc c))), mul-assoc n n 32)
+count-le n f = omega (
+  arith,
+  sum-le n (n * 32) (λ r. sum-below n (λ c. cell-count f (suc r) (suc c)))
+      (λ r. sum-le n 32 (λ c. cell-count f (suc r) (suc c)) (λ c. cell-le f (suc r) (suc c))),
+  mul-assoc n n 32,
+)
 
 -- one right more
 module _ (n : ℕ) (f g : Grant → Bool) (k r c : ℕ) (right : k < 32) (row : r < n) (column : c < n)
@@ -48,9 +52,9 @@ module _ (n : ℕ) (f g : Grant → Bool) (k r c : ℕ) (right : k < 32) (row : 
   unfolding count
   count-bump = sum-bump n (λ i. sum-below n (λ j. cell-count f (suc i) (suc j))) (λ i. sum-below n (λ j. cell-count g (suc i) (suc j))) r row
       (sum-bump n (λ j. cell-count f (suc r) (suc j)) (λ j. cell-count g (suc r) (suc j)) c column cell-more
-        (λ j d. cell-same f g (suc r) (suc j) (λ k′. others k′ (suc r) (suc j) (λ _ _ e. d (omega arith)))))
+      (λ j d. cell-same f g (suc r) (suc j) (λ k′. others k′ (suc r) (suc j) (λ _ _ e. d (omega arith)))))
       (λ i d. sum-same n (λ j. cell-count f (suc i) (suc j)) (λ j. cell-count g (suc i) (suc j))
-        (λ j h. cell-same f g (suc i) (suc j) (λ k′. others k′ (suc i) (suc j) (λ _ e _. d (omega arith)))))
+      (λ j h. cell-same f g (suc i) (suc j) (λ k′. others k′ (suc i) (suc j) (λ _ e _. d (omega arith)))))
 
 -- a grant in range that f lacks is let through as well
 pub count-more : (n : ℕ) (f : Grant → Bool) (g : Grant) → in-range n g ≡ true → f g ≡ false → count n (λ h. f h || same-grant h g) ≡ count n f + 1
@@ -59,8 +63,10 @@ count-more n f g range new = step (g .right) (g .row) (g .column) range new
     or-none : (a b : Bool) → b ≡ false → (a || b) ≡ a
     or-none true b h = refl
     or-none false b h = h
+
     other : (k r c : ℕ) (g : Grant) → ((k ≡ g .right) → (r ≡ g .row) → (c ≡ g .column) → ⊥) → same-grant (grant k r c) g ≡ false
     other k r c g d = grind (arith, tells)
+
     step : (k r c : ℕ) → in-range n (grant k r c) ≡ true → f (grant k r c) ≡ false → count n (λ h. f h || same-grant h (grant k r c)) ≡ count n f + 1
     step zero r c i e = absurd (omega (arith, range-in n (grant 0 r c) i))
     step (suc k) zero c i e = absurd (omega (arith, range-in n (grant (suc k) 0 c) i))

@@ -67,20 +67,23 @@ pub put-at : (t : PlaceTable) (p v : ℕ) (o : Option ℕ) → within p (table-p
 unfolding table-places
 put-at t p v o h lt is = fun-ext (λ q. ⊎-elim
     (λ (e : q ≡ p).
-      ap (table-type (written t p v)) e ∙ read-type (written t p v) p h ∙ ap as-type (getD-set-same (t .types) (p - 1) v 0 lt) ∙ typed o is
-      ∙ sym (ap (λ (b : Bool). cond b (only-types o) (table-type t q)) (both (eq-eqb q p e))))
+    ap (table-type (written t p v)) e ∙ read-type (written t p v) p h ∙ ap as-type (getD-set-same (t .types) (p - 1) v 0 lt) ∙ typed o is
+    ∙ sym (ap (λ (b : Bool). cond b (only-types o) (table-type t q)) (both (eq-eqb q p e))))
     (λ (d : q ≢ p).
-      others q d (cases-bool (within q (table-places t)))
-      ∙ sym (ap (λ (b : Bool). cond b (only-types o) (table-type t q)) (one (ne-eqb q p d))))
+    others q d (cases-bool (within q (table-places t)))
+    ∙ sym (ap (λ (b : Bool). cond b (only-types o) (table-type t q)) (one (ne-eqb q p d))))
     (cases-eq q p))
   where
     typed : (o : Option ℕ) → v ≡ valueOr o 0 → as-type v ≡ only-types o
     typed (Some k) e = ap as-type e
     typed None e = ap as-type e
+
     both : {b : Bool} → b ≡ true → (within p (table-places t) && b) ≡ true
     both e = and-from _ _ h e
+
     one : {b : Bool} → b ≡ false → (within p (table-places t) && b) ≡ false
     one e = and-right _ _ e
+
     others : (q : ℕ) → q ≢ p → (within q (table-places t) ≡ true) ⊎ (within q (table-places t) ≡ false) → table-type (written t p v) q ≡ table-type t q
     others q d (inl i) =
         let iq = within-in q (table-places t) i in

@@ -70,8 +70,8 @@ module _ (t t′ : PlaceTable) (p : ℕ) (size : table-places t′ ≡ table-pla
     types-created =
         let fits = create-fits (table-places t) (table-type t p) ok in
         put ∙ fun-ext (λ q.
-          ap (λ (b : Bool). cond (b && eqb q p) (only-types (Some k)) (table-type t q)) (fits .0)
-          ∙ ap (λ (b : Bool). cond (eqb q p) (cond b (Some k) None) (table-type t q)) (fits .1))
+        ap (λ (b : Bool). cond (b && eqb q p) (only-types (Some k)) (table-type t q)) (fits .0)
+        ∙ ap (λ (b : Bool). cond (eqb q p) (cond b (Some k) None) (table-type t q)) (fits .1))
 
     pub created-shows : (f : Grant → Bool) → shows t′ f ≡ created (shows t f) p k
     created-shows f = λ i. record { places = size i; type-at = types-created i; held = f }
@@ -86,6 +86,7 @@ module _ (t t′ : PlaceTable) (p : ℕ) (size : table-places t′ ≡ table-pla
         kept : (b : Bool) (o : Option ℕ) → isSome o ≡ true → isSome (cond b (Some k) o) ≡ true
         kept true o s = refl
         kept false o s = s
+
         still : (q : ℕ) → isSome (table-type t q) ≡ true → isSome (table-type t′ q) ≡ true
         still q s = ap (λ (types : ℕ → Option ℕ). isSome (types q)) types-created ∙ kept (eqb q p) (table-type t q) s
 
@@ -112,6 +113,7 @@ module _ (t t′ : PlaceTable) (p : ℕ) (size : table-places t′ ≡ table-pla
       where
         others : (h : Grant) → not (names p h) ≡ true → (eqb (h .row) p ≡ false) × (eqb (h .column) p ≡ false)
         others h a = (grind (arith, tells), grind (arith, tells))
+
         still : (q : ℕ) → eqb q p ≡ false → isSome (table-type t q) ≡ true → isSome (table-type t′ q) ≡ true
         still q d s = ap (λ (types : ℕ → Option ℕ). isSome (types q)) types-destroyed ∙ ap (λ (b : Bool). isSome (cond b None (table-type t q))) d ∙ s
 

@@ -34,6 +34,7 @@ typed-within t p k h = place (within p (table-places t)) h
     kind : (x : ℕ) (b : Bool) → within x 16 ≡ b → cond b (Some x) None ≡ Some k → within k 16 ≡ true
     kind x true e f = let x-is : x ≡ k = cc in sym (ap (λ (z : ℕ). within z 16) x-is) ∙ e
     kind x false e f = absurd (let z : _≡_ {A = ℕ} 0 1 = cc in omega arith)
+
     place : (b : Bool) → cond b (as-type (getD (t .types) (p - 1) 0)) None ≡ Some k → (b ≡ true) × (within k 16 ≡ true)
     place true f = (refl, kind (getD (t .types) (p - 1) 0) (within (getD (t .types) (p - 1) 0) 16) refl f)
     place false f = absurd (let z : _≡_ {A = ℕ} 0 1 = cc in omega arith)

@@ -31,10 +31,17 @@ pub fn is_within(number: u16, largest: u16) -> bool
 
 // Whether a grant may stand in a matrix with so many places, its row and its column having these types:
 // 5 if a number is out of range, else 6 if a place is empty.
-pub fn judge_cell(grant: Grant, places: u16, row: Option<u16>, column: Option<u16>) -> Result<(), MatrixFault>
+pub fn judge_cell(
+    grant: Grant,
+    places: u16,
+    row: Option<u16>,
+    column: Option<u16>,
+) -> Result<(), MatrixFault>
     ensures { λ r. ⌜ refusal r ≡ cell-judged places row column grant ⌝ }
 {
-    if !(is_within(grant.right, 32) && is_within(grant.row, places) && is_within(grant.column, places)) {
+    if !(is_within(grant.right, 32)
+        && is_within(grant.row, places)
+        && is_within(grant.column, places)) {
         Err(MatrixFault::OutOfRange)
     } else if row.is_some() && column.is_some() {
         Ok(())

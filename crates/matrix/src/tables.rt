@@ -39,7 +39,11 @@ impl PlaceTable {
             return None;
         }
         let kind = self.types[place as usize - 1];
-        if is_within(kind, 16) { Some(kind) } else { None }
+        if is_within(kind, 16) {
+            Some(kind)
+        } else {
+            None
+        }
     }
 
     // Gives a place a type, or empties it; a number that is no place of the table, or no type, changes nothing.
@@ -56,7 +60,12 @@ impl PlaceTable {
     pub fn judge_grant(&self, grant: Grant) -> Result<(), MatrixFault>
         ensures { λ r. ⌜ refusal r ≡ cell-judged (table-places (now (self .entry))) (table-type (now (self .entry)) (grant .row)) (table-type (now (self .entry)) (grant .column)) grant ⌝ }
     {
-        judge_cell(grant, self.places(), self.type_of(grant.row), self.type_of(grant.column))
+        judge_cell(
+            grant,
+            self.places(),
+            self.type_of(grant.row),
+            self.type_of(grant.column),
+        )
     }
 
     // 5 if the place or the type is out of range, else 6 if the place is filled.

@@ -16,8 +16,14 @@ use stories::trial_story;
 
 fn main(rt: LibcRuntime) -> io::Result<()> {
     println!(rt, "Who holds which right in what: a tour of the engine.")?;
-    println!(rt, "Places: 1 a publisher (type 1), 2 an agent (type 2), 3 a bar (type 3), 4 a title (type 4).")?;
-    println!(rt, "Rights: 1 owns, 2 sells, 3 plays. A cell shows the rights that its row holds in its column.")?;
+    println!(
+        rt,
+        "Places: 1 a publisher (type 1), 2 an agent (type 2), 3 a bar (type 3), 4 a title (type 4)."
+    )?;
+    println!(
+        rt,
+        "Rights: 1 owns, 2 sells, 3 plays. A cell shows the rights that its row holds in its column."
+    )?;
     memory_story(&rt)?;
     grid_story(&rt)?;
     list_story(&rt)
@@ -41,7 +47,10 @@ fn memory_story(rt: &LibcRuntime) -> io::Result<()> {
 
 fn grid_story(rt: &LibcRuntime) -> io::Result<()> {
     println!(rt)?;
-    println!(rt, "== A grid of 4 places, in memory full of old numbers ==")?;
+    println!(
+        rt,
+        "== A grid of 4 places, in memory full of old numbers =="
+    )?;
     let mut cells = [0xffff_ffffu32; 16];
     let mut grid = Grid::open(&mut cells, 4);
     register_story(rt, &mut grid)?;
@@ -52,8 +61,15 @@ fn grid_story(rt: &LibcRuntime) -> io::Result<()> {
 
 fn list_story(rt: &LibcRuntime) -> io::Result<()> {
     println!(rt)?;
-    println!(rt, "== A grant list of 4 places and 3 records, in memory full of old records ==")?;
-    let mut records = [Grant { right: 3, row: 3, column: 4 }; 3];
+    println!(
+        rt,
+        "== A grant list of 4 places and 3 records, in memory full of old records =="
+    )?;
+    let mut records = [Grant {
+        right: 3,
+        row: 3,
+        column: 4,
+    }; 3];
     let mut list = GrantList::open(&mut records, 4);
     register_story(rt, &mut list)?;
     println!(rt)?;

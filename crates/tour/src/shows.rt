@@ -47,19 +47,22 @@ pub fn say_grant(rt: &LibcRuntime, verb: &str, grant: Grant) -> io::Result<()> {
     let right = grant.right;
     let row = grant.row;
     let column = grant.column;
-    print!(rt, "{verb} right {right} of place {row} in place {column}: ")
+    print!(
+        rt,
+        "{verb} right {right} of place {row} in place {column}: "
+    )
 }
 
 fn show_type<M: Matrix>(rt: &LibcRuntime, matrix: &M, place: u16) -> io::Result<()> {
     match matrix.type_of(place) {
-        Some(kind) => print!(rt, "  {place} is {kind} "),
+        Some(kind) => print!(rt, "   {place} is {kind}"),
         None => print!(rt, "  {place} empty"),
     }
 }
 
 // The rights 1 to 4 that one cell holds, each at its own column.
 fn show_cell<M: Matrix>(rt: &LibcRuntime, matrix: &M, row: u16, column: u16) -> io::Result<()> {
-    print!(rt, "   ")?;
+    print!(rt, "     ")?;
     for right in 1..5u16 {
         if matrix.is_held(Grant { right, row, column }) {
             print!(rt, "{right}")?;
@@ -67,7 +70,7 @@ fn show_cell<M: Matrix>(rt: &LibcRuntime, matrix: &M, row: u16, column: u16) -> 
             print!(rt, ".")?;
         }
     }
-    print!(rt, " ")
+    Ok(())
 }
 
 fn show_row<M: Matrix>(rt: &LibcRuntime, matrix: &M, row: u16) -> io::Result<()> {

@@ -9,19 +9,36 @@ use std::io;
 use trial::Trial;
 use trial::TrialMatrix;
 
-fn enter<M: Matrix>(rt: &LibcRuntime, matrix: &mut M, right: u16, row: u16, column: u16) -> io::Result<()> {
+fn enter<M: Matrix>(
+    rt: &LibcRuntime,
+    matrix: &mut M,
+    right: u16,
+    row: u16,
+    column: u16,
+) -> io::Result<()> {
     let grant = Grant { right, row, column };
     say_grant(rt, "enter", grant)?;
     say_result(rt, matrix.enter(grant))
 }
 
-fn delete<R: Register>(rt: &LibcRuntime, register: &mut R, right: u16, row: u16, column: u16) -> io::Result<()> {
+fn delete<R: Register>(
+    rt: &LibcRuntime,
+    register: &mut R,
+    right: u16,
+    row: u16,
+    column: u16,
+) -> io::Result<()> {
     let grant = Grant { right, row, column };
     say_grant(rt, "delete", grant)?;
     say_result(rt, register.delete(grant))
 }
 
-fn create<R: Register>(rt: &LibcRuntime, register: &mut R, place: u16, kind: u16) -> io::Result<()> {
+fn create<R: Register>(
+    rt: &LibcRuntime,
+    register: &mut R,
+    place: u16,
+    kind: u16,
+) -> io::Result<()> {
     print!(rt, "create place {place} with type {kind}: ")?;
     say_result(rt, register.create(place, kind))
 }
@@ -63,7 +80,23 @@ pub fn register_story<R: Register>(rt: &LibcRuntime, register: &mut R) -> io::Re
 
 fn change_story<R: Register>(rt: &LibcRuntime, register: &mut R) -> io::Result<()> {
     create(rt, register, 3, 3)?;
-    let sales = [Grant { right: 2, row: 1, column: 2 }, Grant { right: 2, row: 2, column: 4 }, Grant { right: 3, row: 3, column: 4 }];
+    let sales = [
+        Grant {
+            right: 2,
+            row: 1,
+            column: 2,
+        },
+        Grant {
+            right: 2,
+            row: 2,
+            column: 4,
+        },
+        Grant {
+            right: 3,
+            row: 3,
+            column: 4,
+        },
+    ];
     enter_list(rt, register, &sales)?;
     show_matrix(rt, register)?;
     delete(rt, register, 2, 1, 2)?;
@@ -81,7 +114,23 @@ pub fn trial_story<M: Matrix + Drop>(rt: &LibcRuntime, below: M) -> io::Result<(
     let mut trial = Trial::new(below);
     show_matrix(rt, &trial)?;
     enter(rt, &mut trial, 1, 1, 4)?;
-    let plays = [Grant { right: 3, row: 3, column: 4 }, Grant { right: 4, row: 3, column: 5 }];
+    let plays = [
+        Grant {
+            right: 3,
+            row: 3,
+            column: 4,
+        },
+        Grant {
+            right: 2,
+            row: 3,
+            column: 4,
+        },
+        Grant {
+            right: 4,
+            row: 3,
+            column: 5,
+        },
+    ];
     enter_list(rt, &mut trial, &plays)?;
     show_matrix(rt, &trial)?;
     println!(rt, "a second trial over the first:")?;

@@ -8,14 +8,13 @@ use native.Mathlib.Nat.{ℕ-set}
 use native.Mathlib.Omega.{arith}
 use lib.Dec.{ltb}
 use lib.ListN.{length}
-use Rattle.std.specs.declared.option.Option.{Option}
 use Rattle.std.proofs.shelf.Lists.{length-push}
 use Rattle.std.proofs.shelf.Tests.{or-left, or-right, and-from, lt-ltb}
 use Rattle.matrix.specs.Grants.{same-grant}
 use Rattle.matrix.specs.Listed.{listed}
 use Rattle.matrix.specs.Standing.{Meaning, stands, entered}
 use Rattle.matrix.specs.Calls.{Entered}
-use Rattle.matrix.specs.Refusals.{cell-judged, delete-refusal, enter-refusal}
+use Rattle.matrix.specs.Refusals.{delete-refusal, enter-refusal}
 use Rattle.matrix.specs.declared.grants.Grant.{Grant}
 use Rattle.matrix.proofs.Alikes.{same-is}
 use Rattle.matrix.proofs.Listing.{listed-push}
@@ -23,14 +22,6 @@ use Rattle.matrix.proofs.Shown.{cell-stands, enter-goes, enter-lacks, entered-a
 use Rattle.trial.specs.Means.{over}
 use Rattle.trial.specs.declared.overlay.OwnRights.{OwnRights}
 use Rattle.trial.specs.declared.overlay.Trial.{Trial}
-
--- what the calls below told is what stands there
-pub judged-below : (m : Meaning) (g : Grant) {n : ℕ} {row column : Option ℕ} → n ≡ m .standing .places → row ≡ m .standing .type-at (g .row) → column ≡ m .standing .type-at (g .column)
-    → cell-judged n row column g ≡ delete-refusal m g
-judged-below m g n r c = λ i. cell-judged (n i) (r i) (c i) g
-
-pub neither : (a b d : Bool) → a ≡ false → b ≡ false → (a || (b && d)) ≡ false
-neither a b d e f = grind (arith, e, f)
 
 -- over m, with the own rights xs; g passes range and filling
 module _ (m : Meaning) (xs : List Grant) (g : Grant) (ok : 0 ≡ delete-refusal m g) where
@@ -62,17 +53,18 @@ module _ (m : Meaning) (xs : List Grant) (g : Grant) (ok : 0 ≡ delete-refusal 
       own-enters = record {
         standing = λ i. record { places = m .standing .places; type-at = m .standing .type-at; held = fun-ext joins i };
         room =
-          let one : _≡_ {A = ℕ} (cond (over m xs .standing .held g) 0 1) 1 = ap (λ (b : Bool). cond b 0 1) not-held in
-          omega (arith, one, length-push xs g);
+            let one : _≡_ {A = ℕ} (cond (over m xs .standing .held g) 0 1) 1 = ap (λ (b : Bool). cond b 0 1) not-held in
+            omega (arith, one, length-push xs g);
       }
         where
           spread : (a b d t : Bool) → (t ≡ true → b ≡ true) → (a || (b && (d || t))) ≡ ((a || (b && d)) || t)
           spread a b d t f = grind (arith, f)
+
           joins : (h : Grant) → over m (xs ++ (g ∷ [])) .standing .held h ≡ (over m xs .standing .held h || same-grant h g)
           joins h =
               ap (λ (b : Bool). m .standing .held h || (stands (m .standing .type-at) h && b)) (listed-push xs g h)
               ∙ spread (m .standing .held h) (stands (m .standing .type-at) h) (listed xs h) (same-grant h g)
-                (λ e. ap (stands (m .standing .type-at)) (same-is h g e) ∙ here)
+              (λ e. ap (stands (m .standing .type-at)) (same-is h g e) ∙ here)
 
 -- a trial with the same own rights over the same matrix is the same: the rest is a proposition
 pub same-trial : {M : Type 0} (t : Trial M) (o : OwnRights) (is : o ≡ t .own) (w : length (o .rights) ≡ 512) → record { below = t .below; own = o; whole = w } ≡ t

@@ -31,8 +31,8 @@ impl GrantList<'_> {
 pub impl Register for GrantList<'_> as GrantListRegister {
     fn delete(&mut self, grant: Grant) -> Result<(), MatrixFault> {
         self.table.judge_grant(grant)?;
-        if let Some(i) = self.grants.find(&grant) {
-            self.grants.take_out(i);
+        if let Some(found) = self.grants.find(&grant) {
+            self.grants.take_out(found);
         }
         Ok(())
     }

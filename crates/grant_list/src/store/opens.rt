@@ -42,6 +42,9 @@ impl<'a> GrantList<'a> {
         requires { ⌜ length (now memory) ≤ 4096 ⌝ }
         ensures { λ r. ⌜ list-means r ≡ blank places (length (now (memory .entry))) ⌝ }
     {
-        GrantList { table: PlaceTable::new(places), grants: BoundedList::new(memory) }
+        GrantList {
+            table: PlaceTable::new(places),
+            grants: BoundedList::new(memory),
+        }
     }
 }

@@ -54,6 +54,9 @@ impl<'a> Grid<'a> {
         ensures rest { λ r. ⌜ beyond r ≡ drop (table-places (r .table) * table-places (r .table)) (now (memory .entry)) ⌝ }
     {
         clear(memory, places as usize * places as usize);
-        Grid { table: PlaceTable::new(places), cells: memory }
+        Grid {
+            table: PlaceTable::new(places),
+            cells: memory,
+        }
     }
 }

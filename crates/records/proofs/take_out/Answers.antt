@@ -35,7 +35,7 @@ returns g c =
     record {
       told = sym (lt-ltb _ _ (omega (arith, length-take k xs, c .len-n .ensures .value)));
       after =
-        ap (take last) is ∙ closed-all xs p (length (take k xs)) last (omega arith) (omega (arith, c .len-n .ensures .value)) (omega (arith, length-take k xs))
-        ∙ ap (λ (l : List (g .T .Denot)). removed l p) (take-front k xs);
+          ap (take last) is ∙ closed-all xs p (length (take k xs)) last (omega arith) (omega (arith, c .len-n .ensures .value)) (omega (arith, length-take k xs))
+          ∙ ap (λ (l : List (g .T .Denot)). removed l p) (take-front k xs);
       same = tt;
     }

@@ -1,6 +1,9 @@
 ghost use mathlib.Core.Path.{_≡_};
+ghost use mathlib.Core.Bool.{_&&_};
 ghost use mathlib.Core.List.{[]};
-ghost use Rattle.matrix.specs.Refusals.{refusal, accepted, refused, enter-refusal};
+ghost use Rattle.matrix.specs.Listed.{listed};
+ghost use Rattle.matrix.specs.Refusals.{refusal, accepted, refused, delete-refusal, enter-refusal};
+ghost use Rattle.matrix.specs.Standing.{stands};
 ghost use Rattle.matrix.specs.Calls.{Entered};
 ghost use Rattle.trial.specs.Means.{own-rights, trial-means, trial-lawful};
 use super::OwnRights;
@@ -17,7 +20,10 @@ impl<M: Matrix> Trial<M> {
         ensures empty { λ r. ⌜ own-rights r ≡ [] ⌝ }
         ensures kept { λ r. ⌜ r .below ≡ below ⌝ }
     {
-        Trial { below, own: OwnRights::new() }
+        Trial {
+            below,
+            own: OwnRights::new(),
+        }
     }
 
     // What stands below, as it was handed over.
@@ -33,6 +39,25 @@ impl<M: Matrix> Trial<M> {
     {
         let Trial { below, .. } = self;
         below
+    }
+
+    // 5 if a number of the grant is out of range, else 6 if its row or its column is empty.
+    fn judge(&self, grant: Grant) -> Result<(), MatrixFault>
+        ensures { λ r. ⌜ refusal r ≡ delete-refusal (M·Matrix .means (now (self .entry) .below)) grant ⌝ }
+    {
+        judge_cell(
+            grant,
+            self.below.places(),
+            self.below.type_of(grant.row),
+            self.below.type_of(grant.column),
+        )
+    }
+
+    // Whether a right is one of the trial's own, its places being filled.
+    fn holds_own(&self, grant: Grant) -> bool
+        ensures { λ r. ⌜ r ≡ (stands (M·Matrix .means (now (self .entry) .below) .standing .type-at) grant && listed (own-rights (now (self .entry))) grant) ⌝ }
+    {
+        self.judge(grant).is_ok() && self.own.holds(grant)
     }
 
     // Lets go of the trial's own rights.
@@ -57,14 +82,9 @@ pub impl<M: Matrix> Matrix for Trial<M> as TrialMatrix {
         self.below.type_of(place)
     }
 
-    // It looks below first. An own right counts only while its places are filled.
+    // It looks below first.
     fn is_held(&self, grant: Grant) -> bool {
-        if self.below.is_held(grant) {
-            return true;
-        }
-        let row = self.below.type_of(grant.row);
-        let column = self.below.type_of(grant.column);
-        judge_cell(grant, self.below.places(), row, column).is_ok() && self.own.holds(grant)
+        self.below.is_held(grant) || self.holds_own(grant)
     }
 
     fn room(&self) -> u32 {
@@ -78,9 +98,7 @@ pub impl<M: Matrix> Matrix for Trial<M> as TrialMatrix {
         ensures same { λ r. ⌜ refused r (now (self .exit) ≡ now (self .entry)) ⌝ }
         ensures below { λ _. ⌜ now (self .exit) .below ≡ now (self .entry) .below ⌝ }
     {
-        let row = self.below.type_of(grant.row);
-        let column = self.below.type_of(grant.column);
-        judge_cell(grant, self.below.places(), row, column)?;
+        self.judge(grant)?;
         if self.below.is_held(grant) {
             return Ok(());
         }

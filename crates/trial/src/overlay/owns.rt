@@ -16,8 +16,15 @@ impl OwnRights {
         ensures empty { λ r. ⌜ own-list r ≡ [] ⌝ }
         ensures whole { λ r. ⌜ length (r .rights) ≡ 512 ⌝ }
     {
-        let none = Grant { right: 0, row: 0, column: 0 };
-        OwnRights { rights: [none; 512], used: 0 }
+        let none = Grant {
+            right: 0,
+            row: 0,
+            column: 0,
+        };
+        OwnRights {
+            rights: [none; 512],
+            used: 0,
+        }
     }
 
     pub(crate) fn len(&self) -> usize

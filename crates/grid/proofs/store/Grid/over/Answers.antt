@@ -16,6 +16,6 @@ returns c =
     record {
       means = opened (c .new .result) (c .clear .last .cells) (c .args .places) (c .pre .few) (c .new .ensures .size) (c .clear .ensures .zeros) (c .new .ensures .empty);
       rest =
-        ap (λ (m : ℕ). drop (m * m) (c .clear .last .cells)) n ∙ c .clear .ensures .rest
-        ∙ sym (ap (λ (m : ℕ). drop (m * m) (c .args .memory .now)) n);
+          ap (λ (m : ℕ). drop (m * m) (c .clear .last .cells)) n ∙ c .clear .ensures .rest
+          ∙ sym (ap (λ (m : ℕ). drop (m * m) (c .args .memory .now)) n);
     }

@@ -38,9 +38,10 @@ index-self-i c =
 
 pub ghost-self-in-loop-i : need.ghost-self-in-loop-i
 ghost-self-in-loop-i c =
-    let l = c .loop-i .self in
-    (subst (λ (k : ℕ). table-places (l .table) * table-places (l .table) ≤ k) (sym (length-set _ _ _ ∙ length-set _ _ _)) (l .whole),
-    (sound-zero (l .table) _ _ (sound-zero (l .table) (l .cells .now) _ (l .sound)), tt))
+    let l = c .loop-i .self in (
+      subst (λ (k : ℕ). table-places (l .table) * table-places (l .table) ≤ k) (sym (length-set _ _ _ ∙ length-set _ _ _)) (l .whole),
+      (sound-zero (l .table) _ _ (sound-zero (l .table) (l .cells .now) _ (l .sound)), tt),
+    )
 
 pub loop-i-again : need.loop-i-again
 loop-i-again c =
@@ -52,12 +53,13 @@ loop-i-again c =
     let in′ = within-in (c .args .place) (table-places (c .args .self .now .table)) (c .pre) in
     let whole : n * n ≤ length cells = whole-at (l .table) (c .args .self .now .table) n _ (v .0) (c .places-n .ensures) (l .whole) in
     let hq : q < n = omega (arith, in′, c .places-n .ensures) in
-    let hi = c .loop-i-test .taken in
-    (v .0,
-    (λ j dr dc. kept-more cells n q (c .loop-i .i) whole hq hi j dr dc ∙ v .1 j dr dc),
-    row-more cells n q (c .loop-i .i) whole hq hi (v .2),
-    column-more cells n q (c .loop-i .i) whole hq hi (v .3),
-    beyond-more cells n q (c .loop-i .i) whole hq hi ∙ v .4)
+    let hi = c .loop-i-test .taken in (
+      v .0,
+      (λ j dr dc. kept-more cells n q (c .loop-i .i) whole hq hi j dr dc ∙ v .1 j dr dc),
+      row-more cells n q (c .loop-i .i) whole hq hi (v .2),
+      column-more cells n q (c .loop-i .i) whole hq hi (v .3),
+      beyond-more cells n q (c .loop-i .i) whole hq hi ∙ v .4,
+    )
 
 -- what the last turn left, for the n that the table says
 ended : (t s : PlaceTable) (n : ℕ) (old new : List ℕ) → t ≡ s → n ≡ table-places s → drop (n * n) new ≡ drop (n * n) old
@@ -74,7 +76,7 @@ returns c =
     let P : ℕ → Type 0 = λ m. within (c .args .place) m ≡ true → in-cells m (c .loop-i .self .cells .now) ≡ in-cells-but (c .args .place) m (s .cells .now) in
     record {
       cells = subst P (c .places-n .ensures) (λ at. wiped n (c .args .place) (s .cells .now) (c .loop-i .self .cells .now) at (v .1)
-        (λ x h. v .2 x (omega (arith, c .loop-i-test .left))) (λ x h. v .3 x (omega (arith, c .loop-i-test .left)))) (c .pre);
+          (λ x h. v .2 x (omega (arith, c .loop-i-test .left))) (λ x h. v .3 x (omega (arith, c .loop-i-test .left)))) (c .pre);
       table = v .0;
       rest = ended (c .loop-i .self .table) (s .table) n (s .cells .now) (c .loop-i .self .cells .now) (v .0) (c .places-n .ensures) (v .4);
     }

@@ -9,11 +9,12 @@ use Rattle.std.proofs.shelf.Lists.{drop-set-lt}
 use Rattle.grid.proofs.store.opens.clear.Needs as need
 
 pub loop-i-again : need.loop-i-again
-loop-i-again c =
-    (below-more _ _
+loop-i-again c = (
+  below-more _ _
       (λ k h. let ne : k ≢ c .loop-i .i = omega arith in rw getD-set-other (c .loop-i .inv .0 k h))
       (let lt : c .loop-i .i < length (c .loop-i .cells) = omega arith in rw getD-set-same),
-    drop-set-lt (c .args .count) (c .loop-i .cells) (c .loop-i .i) 0 (c .loop-i-test .taken) ∙ c .loop-i .inv .1)
+  drop-set-lt (c .args .count) (c .loop-i .cells) (c .loop-i .i) 0 (c .loop-i-test .taken) ∙ c .loop-i .inv .1,
+)
 
 pub returns : need.returns
 returns c = record { zeros = λ k h. c .loop-i .inv .0 k (omega arith); rest = c .loop-i .inv .1 }

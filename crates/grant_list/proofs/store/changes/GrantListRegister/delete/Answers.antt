@@ -11,8 +11,8 @@ ghost-self c =
     let e = c .take-out .ensures in (
       omega (arith, s .fits, e .size),
       (
-        sound-out (s .table) (items (s .grants)) (items (c .take-out .last .self)) (c .take-out .result) (c .in-Some .i) (e .after) (s .sound),
-        (apart-out (items (s .grants)) (items (c .take-out .last .self)) (c .take-out .result) (c .in-Some .i) (e .after) (s .distinct), tt),
+        sound-out (s .table) (items (s .grants)) (items (c .take-out .last .self)) (c .take-out .result) (c .in-Some .found) (e .after) (s .sound),
+        (apart-out (items (s .grants)) (items (c .take-out .last .self)) (c .take-out .result) (c .in-Some .found) (e .after) (s .distinct), tt),
       ),
     )
 
@@ -23,6 +23,6 @@ returns-in-Some c =
     record {
       told = c .in-Continue-judge-grant .ensures tt;
       after = out-deletes (s .table) (items (s .grants)) (items (c .take-out .last .self)) (capacity (s .grants)) (capacity (c .take-out .last .self)) (e .size) (c .args .grant)
-          (c .in-Some .i) (c .take-out .result) (c .in-Some .ensures tt) (e .told) (e .after) (s .distinct) (omega (arith, length-take (s .grants .used) (s .grants .records .now)));
+          (c .in-Some .found) (c .take-out .result) (c .in-Some .ensures tt) (e .told) (e .after) (s .distinct) (omega (arith, length-take (s .grants .used) (s .grants .records .now)));
       same = tt;
     }

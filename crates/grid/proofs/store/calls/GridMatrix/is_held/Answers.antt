@@ -24,7 +24,7 @@ cell-of-requires c κs =
     let t = c .args .self .now .table in
     let g = c .args .grant in
     let fits = cell-fits (table-places t) (table-type t (g .row)) (table-type t (g .column)) g
-      (ok-number (c .judge-grant .result) (sym (c .if-not-is-ok .ensures tt .value)) ∙ c .judge-grant .ensures) in
+    (ok-number (c .judge-grant .result) (sym (c .if-not-is-ok .ensures tt .value)) ∙ c .judge-grant .ensures) in
     (ap (λ (n : ℕ). in-range n g) (c .places .ensures) ∙ fits .0, omega (arith, few-places t, c .places .ensures))
 
 pub returns : need.returns
@@ -33,8 +33,8 @@ returns c =
     let n = table-places (s .table) in
     let g = c .args .grant in
     let fits = cell-fits n (table-type (s .table) (g .row)) (table-type (s .table) (g .column)) g
-      (ok-number (c .judge-grant .result) (sym (c .if-not-is-ok .ensures tt .value)) ∙ c .judge-grant .ensures) in
+    (ok-number (c .judge-grant .result) (sym (c .if-not-is-ok .ensures tt .value)) ∙ c .judge-grant .ensures) in
     let at : c .cell-of .result ≡ cell-at n g = c .cell-of .ensures .at ∙ ap (λ (m : ℕ). cell-at m g) (c .places .ensures) in
     ap (λ (x : ℕ). eqb x 1) (and-mask (getD (s .cells .now) (c .cell-of .result) 0 / 2 ^ (g .right - 1)) 1
-      ∙ ap (λ (i : ℕ). bit (g .right - 1) (getD (s .cells .now) i 0)) at)
+    ∙ ap (λ (i : ℕ). bit (g .right - 1) (getD (s .cells .now) i 0)) at)
     ∙ sym (bit-decides n (s .cells .now) g (fits .0))
