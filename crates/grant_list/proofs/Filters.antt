@@ -21,9 +21,8 @@ use Rattle.matrix.specs.Listed.{listed}
 use Rattle.matrix.specs.declared.grants.Grant.{Grant}
 use Rattle.matrix.proofs.Alikes.{same-is, same-self}
 use Rattle.matrix.proofs.Counts.{count-more, count-add}
-use Rattle.matrix.proofs.Listing.{held-again}
+use Rattle.matrix.proofs.Listing.{held-again, listed-cons}
 use Rattle.grant_list.specs.Grants.{kept, away}
-use Rattle.grant_list.proofs.Members.{listed-cons}
 
 -- a list that keeps the grants that pass q holds those of its grants that pass q
 pub listed-kept : (q : Grant → Bool) (h : Grant) (xs : List Grant) → listed (kept q xs) h ≡ (listed xs h && q h)

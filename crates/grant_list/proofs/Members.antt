@@ -18,25 +18,8 @@ use Rattle.matrix.specs.Grants.{same-grant}
 use Rattle.matrix.specs.Listed.{listed}
 use Rattle.matrix.specs.declared.grants.Grant.{Grant}
 use Rattle.matrix.proofs.Alikes.{same-is, same-flip}
-use Rattle.matrix.proofs.Listing.{listed-push, when-added}
+use Rattle.matrix.proofs.Listing.{listed-cons, listed-push, when-added}
 use Rattle.grant_list.specs.Grants.{apart}
-
--- whether a record is found does not depend on where the count begins
-some-from : {X : Type 0} (p : X → Bool) (xs : List X) (i j : ℕ) → isSome (first-from i p xs) ≡ isSome (first-from j p xs)
-some-from p [] i j = refl
-some-from p (x ∷ xs) i j = step (p x) (some-from p xs (i + 1) (j + 1))
-  where
-    step : (b : Bool) → isSome (first-from (i + 1) p xs) ≡ isSome (first-from (j + 1) p xs)
-        → isSome (cond b (Some i) (first-from (i + 1) p xs)) ≡ isSome (cond b (Some j) (first-from (j + 1) p xs))
-    step true ih = refl
-    step false ih = ih
-
-pub listed-cons : (x : Grant) (xs : List Grant) (h : Grant) → listed (x ∷ xs) h ≡ (same-grant h x || listed xs h)
-listed-cons x xs h = step (same-grant h x)
-  where
-    step : (b : Bool) → isSome (cond b (Some 0) (first-from 1 (same-grant h) xs)) ≡ (b || listed xs h)
-    step true = refl
-    step false = some-from (same-grant h) xs 1 0
 
 apart-parts : (g : Grant) (gs : List Grant) → apart (g ∷ gs) ≡ true → (listed gs g ≡ false) × (apart gs ≡ true)
 apart-parts g gs a = let f = and-parts (not (listed gs g)) (apart gs) a in (not-true (listed gs g) (f .0), f .1)

@@ -32,6 +32,23 @@ some-push p i (x ∷ xs) y = step (p x) (some-push p (i + 1) xs y)
     step true ih = refl
     step false ih = ih
 
+-- whether a record is found does not depend on where the count begins
+some-from : {X : Type 0} (p : X → Bool) (xs : List X) (i j : ℕ) → isSome (first-from i p xs) ≡ isSome (first-from j p xs)
+some-from p [] i j = refl
+some-from p (x ∷ xs) i j = step (p x) (some-from p xs (i + 1) (j + 1))
+  where
+    step : (b : Bool) → isSome (first-from (i + 1) p xs) ≡ isSome (first-from (j + 1) p xs)
+        → isSome (cond b (Some i) (first-from (i + 1) p xs)) ≡ isSome (cond b (Some j) (first-from (j + 1) p xs))
+    step true ih = refl
+    step false ih = ih
+
+pub listed-cons : (x : Grant) (xs : List Grant) (h : Grant) → listed (x ∷ xs) h ≡ (same-grant h x || listed xs h)
+listed-cons x xs h = step (same-grant h x)
+  where
+    step : (b : Bool) → isSome (cond b (Some 0) (first-from 1 (same-grant h) xs)) ≡ (b || listed xs h)
+    step true = refl
+    step false = some-from (same-grant h) xs 1 0
+
 pub listed-push : (gs : List Grant) (g h : Grant) → listed (gs ++ (g ∷ [])) h ≡ (listed gs h || same-grant h g)
 listed-push gs g h = some-push (same-grant h) 0 gs g
 
