@@ -1,4 +1,7 @@
 // A tour of the engine: small matrices in each kind, each call with its result in words.
+mod reads;
+mod runs;
+mod schemes;
 mod shows;
 mod stories;
 
@@ -9,6 +12,10 @@ use grid::Grid;
 use grid::GridMatrix;
 use grid::GridRegister;
 use matrix::Grant;
+use reads::line_story;
+use runs::step_story;
+use scheme::Scheme;
+use schemes::scheme_story;
 use shows::say_memory;
 use std::io;
 use stories::register_story;
@@ -26,7 +33,11 @@ fn main(rt: LibcRuntime) -> io::Result<()> {
     )?;
     memory_story(&rt)?;
     grid_story(&rt)?;
-    list_story(&rt)
+    list_story(&rt)?;
+    travel_story(&rt)?;
+    println!(rt)?;
+    println!(rt, "== Lines of a lot file ==")?;
+    line_story(&rt)
 }
 
 // Which memory serves for which register.
@@ -75,4 +86,24 @@ fn list_story(rt: &LibcRuntime) -> io::Result<()> {
     println!(rt)?;
     println!(rt, "== A trial over the grant list ==")?;
     trial_story(rt, list)
+}
+
+// A scheme, and its steps on each kind of register.
+fn travel_story(rt: &LibcRuntime) -> io::Result<()> {
+    println!(rt)?;
+    println!(rt, "== A scheme: how rights may travel ==")?;
+    let mut scheme = Scheme::smallest();
+    scheme_story(rt, &mut scheme)?;
+    println!(rt)?;
+    println!(rt, "== Its steps on a grid ==")?;
+    let mut cells = [0u32; 16];
+    step_story(rt, &scheme, Grid::open(&mut cells, 4))?;
+    println!(rt)?;
+    println!(rt, "== Its steps on a grant list of 2 records ==")?;
+    let mut records = [Grant {
+        right: 0,
+        row: 0,
+        column: 0,
+    }; 2];
+    step_story(rt, &scheme, GrantList::open(&mut records, 4))
 }

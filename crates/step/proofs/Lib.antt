@@ -1,0 +1,10 @@
+pub mod Upto
+pub mod Freshness
+pub mod Owed
+pub mod Orders
+pub mod Safe
+pub mod Performing
+pub mod Starting
+pub mod Finding
+pub mod Growth
+pub mod Sequences
