@@ -100,7 +100,7 @@ fn ranges(rt: &LibcRuntime) -> io::Result<()> {
     )
 }
 
-fn orders(rt: &LibcRuntime) -> io::Result<()> {
+fn creations(rt: &LibcRuntime) -> io::Result<()> {
     case(
         rt,
         "test after an operation",
@@ -133,7 +133,10 @@ fn orders(rt: &LibcRuntime) -> io::Result<()> {
         0,
         &[],
         &[],
-    )?;
+    )
+}
+
+fn destructions(rt: &LibcRuntime) -> io::Result<()> {
     case(rt, "destroy twice", &["c 1", "x 1", "x 1"], 0, &[], &[])?;
     case(
         rt,
@@ -150,7 +153,10 @@ fn orders(rt: &LibcRuntime) -> io::Result<()> {
         0,
         &[],
         &[],
-    )?;
+    )
+}
+
+fn unfinished(rt: &LibcRuntime) -> io::Result<()> {
     case(
         rt,
         "before any command",
@@ -170,8 +176,8 @@ fn orders(rt: &LibcRuntime) -> io::Result<()> {
     case(rt, "no command", &["g 1"], 0, &[], &[])
 }
 
-// Two grounds in one call: the smaller number is given.
-fn pairs(rt: &LibcRuntime) -> io::Result<()> {
+// Two grounds in one call of a command: the smaller number is given.
+fn pairs_of_commands(rt: &LibcRuntime) -> io::Result<()> {
     case(
         rt,
         "1 and 2: 5 parameters, one undeclared",
@@ -195,7 +201,11 @@ fn pairs(rt: &LibcRuntime) -> io::Result<()> {
         0,
         &[],
         &[],
-    )?;
+    )
+}
+
+// Two grounds in one line.
+fn pairs_of_lines(rt: &LibcRuntime) -> io::Result<()> {
     case(
         rt,
         "1 and 2: 7th operation, right 33",
@@ -234,6 +244,9 @@ fn pairs(rt: &LibcRuntime) -> io::Result<()> {
 pub fn scheme_cases(rt: &LibcRuntime) -> io::Result<()> {
     counts(rt)?;
     ranges(rt)?;
-    orders(rt)?;
-    pairs(rt)
+    creations(rt)?;
+    destructions(rt)?;
+    unfinished(rt)?;
+    pairs_of_commands(rt)?;
+    pairs_of_lines(rt)
 }

@@ -131,7 +131,10 @@ fn effects(rt: &LibcRuntime, scheme: &Scheme) -> io::Result<()> {
         scheme,
         "destroy row and column",
         &["r 5 1 4", "r 1 4 3", "r 6 4", "q 3 1 4", "q 1 4 3"],
-    )?;
+    )
+}
+
+fn transfers(rt: &LibcRuntime, scheme: &Scheme) -> io::Result<()> {
     case(
         rt,
         scheme,
@@ -184,7 +187,11 @@ fn refusals(rt: &LibcRuntime, scheme: &Scheme) -> io::Result<()> {
         scheme,
         "only the second test false",
         &["h 1 1 3", "r 9 1 3", "h 2 1 3", "r 9 1 3"],
-    )?;
+    )
+}
+
+// Two grounds in one step: the smaller number is given.
+fn pairs(rt: &LibcRuntime, scheme: &Scheme) -> io::Result<()> {
     case(
         rt,
         scheme,
@@ -211,5 +218,7 @@ pub fn step_cases(rt: &LibcRuntime) -> io::Result<()> {
     let mut scheme = Scheme::smallest();
     write_scheme(rt, &mut scheme)?;
     effects(rt, &scheme)?;
-    refusals(rt, &scheme)
+    transfers(rt, &scheme)?;
+    refusals(rt, &scheme)?;
+    pairs(rt, &scheme)
 }

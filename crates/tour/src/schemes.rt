@@ -55,8 +55,8 @@ fn write_types(rt: &LibcRuntime, writer: &mut SchemeWriter) -> io::Result<()> {
     )
 }
 
-// Who owns a title lets an agent sell it; an agent who sells it lets a bar play it; who owns it takes that back.
-fn write_commands(rt: &LibcRuntime, writer: &mut SchemeWriter) -> io::Result<()> {
+// Who owns a title lets an agent sell it.
+fn write_selling(rt: &LibcRuntime, writer: &mut SchemeWriter) -> io::Result<()> {
     say(
         rt,
         "open a command over types 1 2 4",
@@ -76,7 +76,11 @@ fn write_commands(rt: &LibcRuntime, writer: &mut SchemeWriter) -> io::Result<()>
         rt,
         "  test right 1 of 2 in 3",
         writer.add_test(cell(1, 2, 3)),
-    )?;
+    )
+}
+
+// An agent who sells it lets a bar play it.
+fn write_playing(rt: &LibcRuntime, writer: &mut SchemeWriter) -> io::Result<()> {
     say(
         rt,
         "open a command over types 2 3 4",
@@ -96,7 +100,11 @@ fn write_commands(rt: &LibcRuntime, writer: &mut SchemeWriter) -> io::Result<()>
         rt,
         "  enter right 3 of 2 in 3",
         writer.add_enter(cell(3, 2, 3)),
-    )?;
+    )
+}
+
+// Who owns it takes that back; the operation comes later.
+fn write_taking_back(rt: &LibcRuntime, writer: &mut SchemeWriter) -> io::Result<()> {
     say(
         rt,
         "open a command over types 1 2 3 4 4",
@@ -130,10 +138,14 @@ fn show_cell(rt: &LibcRuntime, verb: &str, c: Cell) -> io::Result<()> {
     println!(rt, "    {verb} right {right} of {row} in {column}")
 }
 
-fn show_lines(rt: &LibcRuntime, command: &Command) -> io::Result<()> {
+fn show_tests(rt: &LibcRuntime, command: &Command) -> io::Result<()> {
     for test in command.tests() {
         show_cell(rt, "test", *test)?;
     }
+    Ok(())
+}
+
+fn show_operations(rt: &LibcRuntime, command: &Command) -> io::Result<()> {
     for operation in command.operations() {
         show_operation(rt, *operation)?;
     }
@@ -146,7 +158,8 @@ fn show_command(rt: &LibcRuntime, scheme: &Scheme, number: u16) -> io::Result<()
     };
     let formals = command.formals();
     println!(rt, "  command {number} over types {formals:?}")?;
-    show_lines(rt, command)
+    show_tests(rt, command)?;
+    show_operations(rt, command)
 }
 
 fn show_scheme(rt: &LibcRuntime, scheme: &Scheme) -> io::Result<()> {
@@ -167,7 +180,9 @@ fn show_scheme(rt: &LibcRuntime, scheme: &Scheme) -> io::Result<()> {
 pub fn scheme_story(rt: &LibcRuntime, scheme: &mut Scheme) -> io::Result<()> {
     let mut writer = SchemeWriter::new();
     write_types(rt, &mut writer)?;
-    write_commands(rt, &mut writer)?;
+    write_selling(rt, &mut writer)?;
+    write_playing(rt, &mut writer)?;
+    write_taking_back(rt, &mut writer)?;
     say(rt, "finish", writer.finish(scheme))?;
     say(
         rt,

@@ -81,13 +81,17 @@ fn show_row<M: Matrix>(rt: &LibcRuntime, matrix: &M, row: u16) -> io::Result<()>
     println!(rt)
 }
 
-// The first four places as a table, with the room that is left.
-pub fn show_matrix<M: Matrix>(rt: &LibcRuntime, matrix: &M) -> io::Result<()> {
+fn show_types<M: Matrix>(rt: &LibcRuntime, matrix: &M) -> io::Result<()> {
     print!(rt, "           ")?;
     for place in 1..5u16 {
         show_type(rt, matrix, place)?;
     }
-    println!(rt)?;
+    println!(rt)
+}
+
+// The first four places as a table, with the room that is left.
+pub fn show_matrix<M: Matrix>(rt: &LibcRuntime, matrix: &M) -> io::Result<()> {
+    show_types(rt, matrix)?;
     for row in 1..5u16 {
         show_row(rt, matrix, row)?;
     }
