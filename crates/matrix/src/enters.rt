@@ -12,7 +12,7 @@ pub struct FirstRefusal {
 
 // Enters grants one after the other, up to the first that is refused.
 pub fn enter_all<M: Matrix>(matrix: &mut M, grants: &[Grant]) -> Result<(), FirstRefusal>
-    ensures { EntersAll (means matrix.old) grants.now result (means matrix.new) }
+    ensures { EntersAll (M.means matrix.old) grants.now result (M.means matrix.new) }
 {
     for (position, grant) in grants.iter().enumerate() {
         if let Err(fault) = matrix.enter(*grant) {

@@ -45,14 +45,14 @@ impl<'a, T: Same + Copy> BoundedList<'a, T> {
 
     // The first position in use whose record is the same.
     pub fn find(&self, wanted: &T) -> Option<usize>
-        ensures { result ≡ first (alike wanted.now) (items self.now) }
+        ensures { result ≡ first (T.alike wanted.now) (items self.now) }
     {
         crate::find(self.records, self.used, wanted)
     }
 
     // Adds a record at the end, unless the same one is there or the list is full; sameness goes first.
     pub fn add(&mut self, item: T) -> Addition
-        ensures told { result ≡ addition (alike item) (capacity self.old) (items self.old) }
+        ensures told { result ≡ addition (T.alike item) (capacity self.old) (items self.old) }
         ensures after { items self.new ≡ with_added result item (items self.old) }
         ensures size { capacity self.new ≡ capacity self.old }
         ensures same { UnlessAdded result (self.new ≡ self.old) }

@@ -31,7 +31,7 @@ pub enum Addition {
 }
 
 fn first_same<T: Same>(records: &[T], wanted: &T) -> Option<usize>
-    ensures { result ≡ first (alike wanted.now) records.now }
+    ensures { result ≡ first (T.alike wanted.now) records.now }
 {
     for (i, x) in records.iter().enumerate() {
         if wanted.same(x) {
@@ -43,7 +43,7 @@ fn first_same<T: Same>(records: &[T], wanted: &T) -> Option<usize>
 
 // The first position in use, from 0, whose record is the same as the wanted one. It looks no further than the match.
 pub fn find<T: Same>(records: &[T], used: usize, wanted: &T) -> Option<usize>
-    ensures { result ≡ first (alike wanted.now) (take used records.now) }
+    ensures { result ≡ first (T.alike wanted.now) (take used records.now) }
 {
     let n = len(records, used);
     first_same(&records[0..n], wanted)
@@ -81,7 +81,7 @@ pub fn at<T: Copy>(records: &[T], used: usize, position: usize) -> Option<T>
 
 // Adds a record at the end, unless the same one is there or the list is full; sameness goes first.
 pub fn add<T: Same + Copy>(records: &mut [T], used: &mut usize, item: T) -> Addition
-    ensures told { result ≡ addition (alike item) (length records.old) (take used.old records.old) }
+    ensures told { result ≡ addition (T.alike item) (length records.old) (take used.old records.old) }
     ensures after { take used.new records.new ≡ with_added result item (take used.old records.old) }
     ensures same { UnlessAdded result ((records.new ≡ records.old) × (used.new ≡ used.old)) }
 {

@@ -9,7 +9,7 @@ returns-then-end-records g c =
     let xs = take c.args.used.now c.args.records.now in
     let p = g.T.Same.alike c.args.item in
     record {
-      told = lacks p _ xs (sym (c.if-is-some.ensures ∙ ap is_some c.find.ensures)) (omega (arith, length-take c.args.used.now c.args.records.now));
+      told = lacks p _ xs (sym (c.if-is_some.ensures ∙ ap is_some c.find.ensures)) (omega (arith, length-take c.args.used.now c.args.records.now));
       after = refl;
       same = (refl, refl);
     }
@@ -19,7 +19,7 @@ returns g c =
     let xs = take c.args.used.now c.args.records.now in
     let p = g.T.Same.alike c.args.item in
     record {
-      told = joins p _ xs (sym (c.if-is-some.ensures ∙ ap is_some c.find.ensures)) (omega (arith, length-take c.args.used.now c.args.records.now));
+      told = joins p _ xs (sym (c.if-is_some.ensures ∙ ap is_some c.find.ensures)) (omega (arith, length-take c.args.used.now c.args.records.now));
       after = take_more_set _ _ _ c.if-end-records.false;
       same = tt;
     }

@@ -7,6 +7,6 @@ pub returns : goal.returns
 returns g c =
     let xs = c.args.records.now in
     let p = g.T.Same.alike c.args.wanted.now in
-    c.first-same.ensures
+    c.first_same.ensures
     ∙ ap (λ (n : ℕ). first p (take n xs)) (omega (arith, c.len-n.ensures.value))
     ∙ ap (first p) (take-front c.args.used xs)

@@ -9,6 +9,6 @@ use Rattle.lines.proofs.reading.read_line.Goals as goal
 
 pub returns-in-len1-up : goal.returns-in-len1-up
 returns-in-len1-up c =
-    rw c.ok-or.ensures.value
-    (reads c.args.bytes.now c.by-letter.result (omega arith)
-    (subst (λ xs. Found (Spells xs) (option_map said c.by-letter.result)) (sym (first_rest c.args.bytes.now 0 (omega (arith, ltb-false)))) c.by-letter.ensures))
+    rw c.ok_or.ensures.value
+    (reads c.args.bytes.now c.by_letter.result (omega arith)
+    (subst (λ xs. Found (Spells xs) (option_map said c.by_letter.result)) (sym (first_rest c.args.bytes.now 0 (omega (arith, ltb-false)))) c.by_letter.ensures))

@@ -15,7 +15,7 @@ loop-position-init g c = none refl
 
 pub loop-position-preserved : goal.loop-position-preserved
 loop-position-preserved g c =
-    let e = c.in-default.ensures in
+    let e = c.in_default.ensures in
     entered-more c.args.grants.now c.loop-position.position (grant 0 0 0) c.loop-position-test.true c.loop-position.invariant (sym e.told) e.after
 
 pub returns-in-Err : goal.returns-in-Err

@@ -5,8 +5,8 @@ use Rattle.scheme.specs.Copied.{rules_with}
 use Rattle.scheme.proofs.Spelled.{command-room, command-kept, command-operates, command-added}
 use Rattle.scheme.proofs.rewrites.write_commands.Goals as goal
 
-pub write-command-requires : goal.write-command-requires
-write-command-requires c =
+pub write_command-requires : goal.write_command-requires
+write_command-requires c =
     let types = (rules_of c.args.writer.now.table).types in
     let commands = c.args.commands.now in
     let i = c.loop-command.command-index in
@@ -20,7 +20,7 @@ write-command-requires c =
 pub loop-command-preserved : goal.loop-command-preserved
 loop-command-preserved c =
     let types = (rules_of c.args.writer.now.table).types in
-    command-added types c.args.commands.now c.requires.kept c.loop-command.command-index c.loop-command-test.true (rules_of c.loop-command.writer.table) _ _ c.loop-command.invariant c.in-ok-write-command.ensures.written
+    command-added types c.args.commands.now c.requires.kept c.loop-command.command-index c.loop-command-test.true (rules_of c.loop-command.writer.table) _ _ c.loop-command.invariant c.in_ok-write_command.ensures.written
 
 pub returns : goal.returns
 returns c =

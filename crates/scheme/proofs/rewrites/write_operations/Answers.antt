@@ -12,11 +12,11 @@ loop-operation-init c = sym (operations-none (rules_of c.args.writer.now.table) 
 pub loop-operation-preserved : goal.loop-operation-preserved
 loop-operation-preserved c =
     operation_added (rules_of c.args.writer.now.table) c.requires.some c.requires.none c.args.operations.now c.loop-operation.operation-index (rules_of c.loop-operation.writer.table) _ _
-    c.loop-operation.invariant c.in-ok-add-operation.ensures.added c.loop-operation-test.true
+    c.loop-operation.invariant c.in_ok-add_operation.ensures.added c.loop-operation-test.true
 
-pub returns-in-err-add-operation : goal.returns-in-err-add-operation
-returns-in-err-add-operation c =
-    absurd (not_refused c.in-err-add-operation.field-0.0 _ c.in-err-add-operation.ensures.number
+pub returns-in_err-add_operation : goal.returns-in_err-add_operation
+returns-in_err-add_operation c =
+    absurd (not_refused c.in_err-add_operation.field-0.0 _ c.in_err-add_operation.ensures.number
     (operation_next (rules_of c.args.writer.now.table) c.requires.some c.requires.none c.args.operations.now c.loop-operation.operation-index (rules_of c.loop-operation.writer.table) _
     c.loop-operation.invariant c.loop-operation-test.true c.requires.few c.requires.kept c.requires.apart))
 

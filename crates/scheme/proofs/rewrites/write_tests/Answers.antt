@@ -12,11 +12,11 @@ loop-test-init c = sym (tests-none (rules_of c.args.writer.now.table) c.requires
 pub loop-test-preserved : goal.loop-test-preserved
 loop-test-preserved c =
     test_added (rules_of c.args.writer.now.table) c.requires.some c.requires.fresh c.args.tests.now c.loop-test.test-index (rules_of c.loop-test.writer.table) _ _
-    c.loop-test.invariant c.in-ok-add-test.ensures.added c.loop-test-test.true
+    c.loop-test.invariant c.in_ok-add_test.ensures.added c.loop-test-test.true
 
-pub returns-in-err-add-test : goal.returns-in-err-add-test
-returns-in-err-add-test c =
-    absurd (not_refused c.in-err-add-test.field-0.0 _ c.in-err-add-test.ensures.number
+pub returns-in_err-add_test : goal.returns-in_err-add_test
+returns-in_err-add_test c =
+    absurd (not_refused c.in_err-add_test.field-0.0 _ c.in_err-add_test.ensures.number
     (test_next (rules_of c.args.writer.now.table) c.requires.some c.requires.fresh c.args.tests.now c.loop-test.test-index (rules_of c.loop-test.writer.table) _
     c.loop-test.invariant c.loop-test-test.true c.requires.few c.requires.kept))
 

@@ -14,25 +14,19 @@ loop-i-init c = (
   refl,
 )
 
-pub invariant-of-self : goal.invariant-of-self
-invariant-of-self c =
+pub invariant_of-self : goal.invariant_of-self
+invariant_of-self c =
     let s = c.loop-i.self in
-    let e = c.take-out.ensures in (
-      omega (arith, s.fits, e.size),
-      (
-        sound_out s.table (items s.grants) (items c.take-out.new.self) c.take-out.result (c.loop-i.i - 1) e.after s.sound,
-        (apart_out (items s.grants) (items c.take-out.new.self) c.take-out.result (c.loop-i.i - 1) e.after s.distinct, tt),
-      ),
-    )
+    let e = c.take_out.ensures in record { fits = omega (arith, s.fits, e.size); sound = sound_out s.table (items s.grants) (items c.take_out.new.self) c.take_out.result (c.loop-i.i - 1) e.after s.sound; distinct = apart_out (items s.grants) (items c.take_out.new.self) c.take_out.result (c.loop-i.i - 1) e.after s.distinct }
 
 pub loop-i-preserved-in-Some : goal.loop-i-preserved-in-Some
 loop-i-preserved-in-Some c =
     let v = c.loop-i.invariant in
-    let e = c.take-out.ensures in (
+    let e = c.take_out.ensures in (
       v.0,
       omega (arith, v.1),
       e.after ∙ turn_goes (away c.args.place) (items c.args.self.now.grants) (items c.loop-i.self.grants) c.loop-i.i (omega arith) v.1 v.2
-          c.in-Some.grant c.in-Some.ensures c.take-out.result (names_it c.args.place c.in-Some.grant c.then-grant-place.either) e.told,
+          c.in-Some.grant c.in-Some.ensures c.take_out.result (names_it c.args.place c.in-Some.grant c.then-grant-place.either) e.told,
       e.size ∙ v.3,
     )
 
@@ -49,4 +43,4 @@ loop-i-preserved-in-Some-2 c =
 pub loop-i-preserved : goal.loop-i-preserved
 loop-i-preserved c =
     let v = c.loop-i.invariant in
-    absurd (turn_none (away c.args.place) (items c.args.self.now.grants) (items c.loop-i.self.grants) c.loop-i.i (omega arith) v.1 v.2 c.in-default.ensures)
+    absurd (turn_none (away c.args.place) (items c.args.self.now.grants) (items c.loop-i.self.grants) c.loop-i.i (omega arith) v.1 v.2 c.in_default.ensures)

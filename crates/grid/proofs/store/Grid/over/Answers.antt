@@ -3,10 +3,10 @@ use Rattle.matrix.specs.Tables.{table_places}
 use Rattle.grid.proofs.Blanks.{size_is, sound-blank, opened}
 use Rattle.grid.proofs.store.Grid.over.Goals as goal
 
-pub invariant-of-result : goal.invariant-of-result
-invariant-of-result c =
+pub invariant_of-result : goal.invariant_of-result
+invariant_of-result c =
     let n : table_places c.new.result ≡ c.args.places = size_is c.new.result c.clear.new.cells c.args.places c.requires.few c.new.ensures.size c.clear.ensures.zeros in
-    (subst (λ (m : ℕ). m * m ≤ length c.clear.new.cells) (sym n) (subst (λ (l : ℕ). c.args.places * c.args.places ≤ l) (sym c.clear.auto.cells) c.requires.whole), (sound-blank c.new.result c.clear.new.cells c.args.places c.requires.few c.new.ensures.size c.clear.ensures.zeros, tt))
+    record { whole = subst (λ (m : ℕ). m * m ≤ length c.clear.new.cells) (sym n) (subst (λ (l : ℕ). c.args.places * c.args.places ≤ l) (sym c.clear.auto.cells) c.requires.whole); sound = sound-blank c.new.result c.clear.new.cells c.args.places c.requires.few c.new.ensures.size c.clear.ensures.zeros }
 
 pub returns : goal.returns
 returns c =

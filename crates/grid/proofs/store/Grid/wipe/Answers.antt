@@ -17,10 +17,10 @@ bounds-self-p c =
     let at = row_lt l.cells.now n (c.args.place - 1) c.loop-i.i whole (omega (arith, in', c.places-n.ensures)) c.loop-i-test.true in
     omega (arith, at)
 
-pub invariant-of-self : goal.invariant-of-self
-invariant-of-self c =
+pub invariant_of-self : goal.invariant_of-self
+invariant_of-self c =
     let l = c.loop-i.self in
-    (subst (λ (k : ℕ). table_places l.table * table_places l.table ≤ k) (sym (length-set _ _ _)) l.whole, (sound_zero l.table l.cells.now _ l.sound, tt))
+    record { whole = subst (λ (k : ℕ). table_places l.table * table_places l.table ≤ k) (sym (length-set _ _ _)) l.whole; sound = sound_zero l.table l.cells.now _ l.sound }
 
 pub bounds-self-i : goal.bounds-self-i
 bounds-self-i c =
@@ -31,12 +31,9 @@ bounds-self-i c =
     let at = column_lt l.cells.now n (c.args.place - 1) c.loop-i.i whole (omega (arith, in', c.places-n.ensures)) c.loop-i-test.true in
     simp length-set (omega (arith, at))
 
-pub invariant-of-self-in-loop-i : goal.invariant-of-self-in-loop-i
-invariant-of-self-in-loop-i c =
-    let l = c.loop-i.self in (
-      subst (λ (k : ℕ). table_places l.table * table_places l.table ≤ k) (sym (length-set _ _ _ ∙ length-set _ _ _)) l.whole,
-      (sound_zero l.table _ _ (sound_zero l.table l.cells.now _ l.sound), tt),
-    )
+pub invariant_of-self-in-loop-i : goal.invariant_of-self-in-loop-i
+invariant_of-self-in-loop-i c =
+    let l = c.loop-i.self in record { whole = subst (λ (k : ℕ). table_places l.table * table_places l.table ≤ k) (sym (length-set _ _ _ ∙ length-set _ _ _)) l.whole; sound = sound_zero l.table _ _ (sound_zero l.table l.cells.now _ l.sound) }
 
 pub loop-i-preserved : goal.loop-i-preserved
 loop-i-preserved c =

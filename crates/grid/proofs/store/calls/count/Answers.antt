@@ -5,8 +5,8 @@ use Rattle.grid.specs.Cells.{bits}
 use Rattle.grid.proofs.Bits.{ones_bits, held_le, bits_le}
 use Rattle.grid.proofs.store.calls.count.Goals as goal
 
-pub overflow-add-sum : goal.overflow-add-sum
-overflow-add-sum c =
+pub overflow_add-sum : goal.overflow_add-sum
+overflow_add-sum c =
     let xs = take c.loop-c.c-index c.args.cells.now in
     let x = get_or c.args.cells.now c.loop-c.c-index 0 in
     let n : length xs ≡ c.loop-c.c-index = length-take-le _ _ c.loop-c.auto.c-index-end in

@@ -4,8 +4,8 @@ use Rattle.scheme.specs.Written.{last_of}
 use Rattle.scheme.proofs.InUse.{some-command, last_used}
 use Rattle.scheme.proofs.tables.Table.last.Goals as goal
 
-pub overflow-sub-result : goal.overflow-sub-result
-overflow-sub-result c = omega (arith, some-command (rules_of c.args.self.now) c.requires, c.commands-commands.ensures.count)
+pub overflow_sub-result : goal.overflow_sub-result
+overflow_sub-result c = omega (arith, some-command (rules_of c.args.self.now) c.requires, c.commands-commands.ensures.count)
 
 pub bounds-commands-commands : goal.bounds-commands-commands
 bounds-commands-commands c = omega (arith, some-command (rules_of c.args.self.now) c.requires, c.commands-commands.ensures.count)

@@ -5,8 +5,8 @@ use Rattle.scheme.proofs.tables.Table.push_command.Goals as goal
 pub bounds-self-self : goal.bounds-self-self
 bounds-self-self c = opened_below c.args.self.now.commands c.args.self.now.opened (omega arith) c.requires.room
 
-pub overflow-add-self : goal.overflow-add-self
-overflow-add-self c = let few : c.args.self.now.opened < 32 = opened_below c.args.self.now.commands c.args.self.now.opened (omega arith) c.requires.room in omega arith
+pub overflow_add-self : goal.overflow_add-self
+overflow_add-self c = let few : c.args.self.now.opened < 32 = opened_below c.args.self.now.commands c.args.self.now.opened (omega arith) c.requires.room in omega arith
 
 pub returns : goal.returns
 returns c =

@@ -4,8 +4,8 @@ use Rattle.scheme.specs.Written.{with_operation}
 use Rattle.scheme.proofs.InUse.{some-command, last_within, last_room, pushed_line}
 use Rattle.scheme.proofs.tables.Table.push_operation.Goals as goal
 
-pub overflow-sub-at : goal.overflow-sub-at
-overflow-sub-at c = omega (arith, some-command (rules_of c.args.self.now) c.requires.some, c.commands.ensures.count)
+pub overflow_sub-at : goal.overflow_sub-at
+overflow_sub-at c = omega (arith, some-command (rules_of c.args.self.now) c.requires.some, c.commands.ensures.count)
 
 pub bounds-self-at : goal.bounds-self-at
 bounds-self-at c =
@@ -13,12 +13,12 @@ bounds-self-at c =
     let in' = last_within t.commands t.opened (length c.commands.result.now - 1) (some-command (rules_of t) c.requires.some) (ap (λ n. n - 1) c.commands.ensures.count) in
     omega arith
 
-pub push-operation-requires : goal.push-operation-requires
-push-operation-requires c =
+pub push_operation-requires : goal.push_operation-requires
+push_operation-requires c =
     let t = c.args.self.now in
     last_room t.commands t.opened (length c.commands.result.now - 1) (some-command (rules_of t) c.requires.some) (ap (λ n. n - 1) c.commands.ensures.count) (λ x. length x.operations) _ c.requires.room
 
 pub returns : goal.returns
 returns c =
     let t = c.args.self.now in
-    pushed_line t (length c.commands.result.now - 1) _ c.push-operation.new.self (with_operation c.args.operation) (some-command (rules_of t) c.requires.some) (ap (λ n. n - 1) c.commands.ensures.count) c.push-operation.ensures
+    pushed_line t (length c.commands.result.now - 1) _ c.push_operation.new.self (with_operation c.args.operation) (some-command (rules_of t) c.requires.some) (ap (λ n. n - 1) c.commands.ensures.count) c.push_operation.ensures

@@ -4,5 +4,5 @@ use Rattle.scheme.specs.Written.{sound}
 use Rattle.scheme.proofs.Sound.{sound_operation}
 use Rattle.scheme.proofs.writers.SchemeWriter.add_operation.Goals as goal
 
-pub invariant-of-self : goal.invariant-of-self
-invariant-of-self c = (ap sound c.push-operation.ensures ∙ sound_operation (rules_of c.args.self.now.table) c.args.self.now.kept _ (sym c.in-ok-judge-operation.ensures), tt)
+pub invariant_of-self : goal.invariant_of-self
+invariant_of-self c = record { kept = ap sound c.push_operation.ensures ∙ sound_operation (rules_of c.args.self.now.table) c.args.self.now.kept _ (sym c.in_ok-judge_operation.ensures) }

@@ -4,5 +4,5 @@ use Rattle.scheme.specs.Written.{sound}
 use Rattle.scheme.proofs.Sound.{sound_test}
 use Rattle.scheme.proofs.writers.SchemeWriter.add_test.Goals as goal
 
-pub invariant-of-self : goal.invariant-of-self
-invariant-of-self c = (ap sound c.push-test.ensures ∙ sound_test (rules_of c.args.self.now.table) c.args.self.now.kept _ (sym c.in-ok-judge-test.ensures), tt)
+pub invariant_of-self : goal.invariant_of-self
+invariant_of-self c = record { kept = ap sound c.push_test.ensures ∙ sound_test (rules_of c.args.self.now.table) c.args.self.now.kept _ (sym c.in_ok-judge_test.ensures) }

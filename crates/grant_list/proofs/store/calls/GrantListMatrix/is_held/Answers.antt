@@ -4,8 +4,8 @@ use Rattle.matrix.specs.Listed.{listed}
 use Rattle.matrix.proofs.Shown.{refused_unheld}
 use Rattle.grant_list.proofs.store.calls.GrantListMatrix.is_held.Goals as goal
 
-pub returns-else-is-ok : goal.returns-else-is-ok
-returns-else-is-ok c =
+pub returns-else-is_ok : goal.returns-else-is_ok
+returns-else-is_ok c =
     let s = c.args.self.now in
-    c.if-is-ok.false
-    ∙ sym (refused_unheld s.table (listed (items s.grants)) c.args.grant c.judge-grant.result s.sound c.judge-grant.ensures (sym c.is-ok.ensures.value ∙ c.if-is-ok.false))
+    c.if-is_ok.false
+    ∙ sym (refused_unheld s.table (listed (items s.grants)) c.args.grant c.judge_grant.result s.sound c.judge_grant.ensures (sym c.is_ok.ensures.value ∙ c.if-is_ok.false))

@@ -8,38 +8,35 @@ use Rattle.grid.specs.Cells.{cell_at}
 use Rattle.grid.proofs.Entries.{range, whole_set, beyond-set, sound_enter, entered, enter_told}
 use Rattle.grid.proofs.store.calls.GridMatrix.enter.Goals as goal
 
-pub cell-of-at-requires : goal.cell-of-at-requires
-cell-of-at-requires c =
+pub cell_of-at-requires : goal.cell_of-at-requires
+cell_of-at-requires c =
     let s = c.args.self.now in
-    let g = c.args.grant in (
-      ap (λ (n : ℕ). in_range n g) c.places.ensures
-          ∙ range s.table s.cells.now g s.whole c.in-ok-judge-grant.ensures (cell_at (table_places s.table) g) refl,
-      omega (arith, few_places s.table, c.places.ensures),
-    )
+    let g = c.args.grant in (record {
+      grant_value = ap (λ (n : ℕ). in_range n g) c.places.ensures
+          ∙ range s.table s.cells.now g s.whole c.in_ok-judge_grant.ensures (cell_at (table_places s.table) g) refl;
+      places_bound = omega (arith, few_places s.table, c.places.ensures);
+    })
 
-pub invariant-of-self : goal.invariant-of-self
-invariant-of-self c =
+pub invariant_of-self : goal.invariant_of-self
+invariant_of-self c =
     let s = c.args.self.now in
     let g = c.args.grant in
-    let ok = c.in-ok-judge-grant.ensures in
-    let at : c.cell-of-at.result ≡ cell_at (table_places s.table) g = c.cell-of-at.ensures.at ∙ ap (λ (m : ℕ). cell_at m g) c.places.ensures in
-    let in' = range_in (table_places s.table) g (range s.table s.cells.now g s.whole ok c.cell-of-at.result at) in (
-      whole_set s.table s.cells.now g s.whole ok c.cell-of-at.result at _,
-      (sound_enter s.table s.cells.now g s.whole ok c.cell-of-at.result at s.sound _ (one_shl (g.right - 1) 32 (omega arith)), tt),
-    )
+    let ok = c.in_ok-judge_grant.ensures in
+    let at : c.cell_of-at.result ≡ cell_at (table_places s.table) g = c.cell_of-at.ensures.at ∙ ap (λ (m : ℕ). cell_at m g) c.places.ensures in
+    let in' = range_in (table_places s.table) g (range s.table s.cells.now g s.whole ok c.cell_of-at.result at) in record { whole = whole_set s.table s.cells.now g s.whole ok c.cell_of-at.result at _; sound = sound_enter s.table s.cells.now g s.whole ok c.cell_of-at.result at s.sound _ (one_shl (g.right - 1) 32 (omega arith)) }
 
 pub returns : goal.returns
 returns c =
     let s = c.args.self.now in
     let g = c.args.grant in
-    let ok = c.in-ok-judge-grant.ensures in
-    let at : c.cell-of-at.result ≡ cell_at (table_places s.table) g = c.cell-of-at.ensures.at ∙ ap (λ (m : ℕ). cell_at m g) c.places.ensures in
-    let in' = range_in (table_places s.table) g (range s.table s.cells.now g s.whole ok c.cell-of-at.result at) in
+    let ok = c.in_ok-judge_grant.ensures in
+    let at : c.cell_of-at.result ≡ cell_at (table_places s.table) g = c.cell_of-at.ensures.at ∙ ap (λ (m : ℕ). cell_at m g) c.places.ensures in
+    let in' = range_in (table_places s.table) g (range s.table s.cells.now g s.whole ok c.cell_of-at.result at) in
     let mask : ◌≡◌ {A = ℕ} ((1 * 2 ^ (g.right - 1)) % 4294967296) (2 ^ (g.right - 1)) = one_shl (g.right - 1) 32 (omega arith) in
     record {
-      told = enter_told s.table s.cells.now g s.whole ok c.cell-of-at.result at s.sound _ mask;
-      after = entered s.table s.cells.now g s.whole ok c.cell-of-at.result at s.sound _ mask;
+      told = enter_told s.table s.cells.now g s.whole ok c.cell_of-at.result at s.sound _ mask;
+      after = entered s.table s.cells.now g s.whole ok c.cell_of-at.result at s.sound _ mask;
       same = tt;
-      rest = beyond-set s.table s.cells.now g s.whole ok c.cell-of-at.result at _;
-      kept = beyond-set s.table s.cells.now g s.whole ok c.cell-of-at.result at _;
+      rest = beyond-set s.table s.cells.now g s.whole ok c.cell_of-at.result at _;
+      kept = beyond-set s.table s.cells.now g s.whole ok c.cell_of-at.result at _;
     }

@@ -10,8 +10,8 @@ use Rattle.grid.specs.Cells.{bits, in_cells}
 use Rattle.grid.proofs.Totals.{total_held}
 use Rattle.grid.proofs.store.calls.GridMatrix.room.Goals as goal
 
-pub overflow-cast-result : goal.overflow-cast-result
-overflow-cast-result c =
+pub overflow_cast-result : goal.overflow_cast-result
+overflow_cast-result c =
     let few : c.places-n.result ≤ 128 = omega (arith, few_places c.args.self.now.table, c.places-n.ensures) in
     omega (arith, mul-le c.places-n.result c.places-n.result 128 128 few few)
 
@@ -26,8 +26,8 @@ held : (n m : ℕ) (cells : List ℕ) (sum : ℕ) → n ≡ m → m * m ≤ leng
 held n m cells sum e whole is =
     is ∙ ap (λ (k : ℕ). sum_by bits (take k cells)) (sub-zero (n * n)) ∙ ap (λ (k : ℕ). sum_by bits (take (k * k) cells)) e ∙ total_held m cells whole
 
-pub overflow-sub-result : goal.overflow-sub-result
-overflow-sub-result c =
+pub overflow_sub-result : goal.overflow_sub-result
+overflow_sub-result c =
     let s = c.args.self.now in
     let m = table_places s.table in
     let is = held c.places-n.result m s.cells.now c.count.result c.places-n.ensures s.whole c.count.ensures in

@@ -12,8 +12,8 @@ returns c =
     let size : table_places c.put.new.self ≡ table_places s.table = c.put.ensures.size ∙ ap table_places c.wipe.ensures.table in
     let put : table_type c.put.new.self ≡ put_type s.table p None = c.put.ensures.after ∙ ap (λ (t : PlaceTable). put_type t p None) c.wipe.ensures.table in
     record {
-      told = c.in-ok-judge-destroy.ensures;
-      after = destroyed s.table c.put.new.self s.cells.now w.cells.now p size put c.in-ok-judge-destroy.ensures c.wipe.ensures.cells;
+      told = c.in_ok-judge_destroy.ensures;
+      after = destroyed s.table c.put.new.self s.cells.now w.cells.now p size put c.in_ok-judge_destroy.ensures c.wipe.ensures.cells;
       same = tt;
       rest = ap (λ (n : ℕ). drop (n * n) w.cells.now) c.put.ensures.size ∙ c.wipe.ensures.rest;
     }
