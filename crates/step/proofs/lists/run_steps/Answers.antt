@@ -13,7 +13,7 @@ loop-position-init g c = none refl
 
 pub loop-position-preserved : goal.loop-position-preserved
 loop-position-preserved g c =
-    let e = c.in-default.ensures in
+    let e = c.in_default.ensures in
     ran-more c.args.steps.now c.loop-position.position _ _ _ c.loop-position-test.true c.command.ensures c.places.ensures c.loop-position.invariant e.told e.after
 
 pub returns-in-Err : goal.returns-in-Err
@@ -21,7 +21,7 @@ returns-in-Err g c =
     let e = c.in-Err.ensures in
     let means = g.R.Matrix.means in
     record {
-      runs = stopped (means c.loop-position.register) (means c.run-step.new.register) c.args.steps.now c.loop-position.position _ _ _ c.in-Err.fault
+      runs = stopped (means c.loop-position.register) (means c.run_step.new.register) c.args.steps.now c.loop-position.position _ _ _ c.in-Err.fault
           c.loop-position-test.true c.command.ensures c.places.ensures (ap means e.same) c.loop-position.invariant e.told;
       laws = granting_laws;
     }
