@@ -1,4 +1,6 @@
 // Cases at the boundaries: each prints the answers to its lines. A point is a line that is done, a number is a refusal.
+#![tactic(auto)]
+
 mod bench;
 mod schemes;
 mod steps;

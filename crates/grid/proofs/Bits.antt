@@ -1,5 +1,5 @@
 -- The bits of a cell: one set, one cleared, and how many there are.
-use Rattle.std.proofs.Common.{◌≡◌, ℕ, zero, suc, ◌+◌, ◌-◌, ◌*◌, ◌/◌, ◌%◌, ◌^◌, ◌<◌, ◌≤◌, max, ◌≢◌, ◌⊎◌, List, [], ◌∷◌, length, sum_by, sym, refl, ap, ◌∙◌, subst, ap₂, inl, inr, ⊎_elim, mod-lt, suc-mul, mul_comm, pow-suc, div-one, add-one, arith, lit<}
+use Rattle.std.proofs.Common.{◌≡◌, ℕ, zero, suc, ◌+◌, ◌-◌, ◌*◌, ◌/◌, ◌%◌, ◌^◌, ◌<◌, ◌≤◌, max, ◌≢◌, List, [], ◌∷◌, length, sum_by, sym, refl, ap, ◌∙◌, subst, ap₂, ⊎_elim, mod-lt, pow-suc, div-one, add-one, arith, lit<}
 use native.Mathlib.Nat.{div-eq_of_lt, div_self, mul-mod_left}
 use lib.Bits.{bit_or, bit_xor, or_step, xor_step, differ}
 use lib.Count.{ones, ones_step}

@@ -1,5 +1,5 @@
 -- A grid in which a place was emptied, with its row and its column.
-use Rattle.std.proofs.Common.{◌≡◌, ℕ, ◌+◌, ◌-◌, ◌*◌, ◌≤◌, Bool, true, false, cond, not, ◌&&◌, List, None, sym, refl, ap, ◌∙◌, ap₂, arith}
+use Rattle.std.proofs.Common.{◌≡◌, ℕ, ◌+◌, ◌-◌, ◌*◌, Bool, true, false, cond, not, ◌&&◌, List, None, sym, refl, ap, ◌∙◌, arith}
 use Rattle.matrix.specs.Grants.{names}
 use Rattle.matrix.specs.Count.{count}
 use Rattle.matrix.specs.Calls.{Destroyed}

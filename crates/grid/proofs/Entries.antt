@@ -1,11 +1,10 @@
 -- A right entered into a grid, or deleted from it: what it means then.
-use Rattle.std.proofs.Common.{◌≡◌, ℕ, ◌+◌, ◌-◌, ◌*◌, ◌^◌, ◌<◌, ◌≤◌, Bool, true, false, cond, not, ◌&&◌, ◌||◌, ltb, List, length, get_or, drop, set, sym, refl, ap, ◌∙◌, subst, ap₂, ⊎_elim, arith}
+use Rattle.std.proofs.Common.{◌≡◌, ℕ, ◌+◌, ◌-◌, ◌*◌, ◌^◌, ◌<◌, ◌≤◌, Bool, true, false, cond, not, ◌&&◌, ◌||◌, List, length, get_or, drop, set, sym, refl, ap, ◌∙◌, ap₂, ⊎_elim, arith}
 use mathlib.Core.Path.{fun_ext}
 use lib.Bits.{bit_or, bit_xor}
 use Rattle.std.proofs.lemmas.List.{length-set, drop-set-lt}
 use Rattle.std.proofs.lemmas.Bool.{cases_Bool, and_parts, or_left, or_right, lt-ltb}
 use Rattle.matrix.specs.Grants.{same_grant, in_range}
-use Rattle.matrix.specs.Standing.{stands}
 use Rattle.matrix.specs.Count.{count}
 use Rattle.matrix.specs.Calls.{Entered, Deleted}
 use Rattle.matrix.specs.Refusals.{cell_judged, enter_refusal}

@@ -1,12 +1,12 @@
 -- The bits of the n × n cells are the rights held.
-use Rattle.std.proofs.Common.{◌≡◌, ℕ, zero, suc, ◌+◌, ◌-◌, ◌*◌, ◌<◌, ◌≤◌, Bool, true, cond, ◌&&◌, eqb, List, [], ◌∷◌, length, get_or, take, sum_by, sym, refl, ap, ◌∙◌, ap₂, add-zero, add_assoc, suc-mul, zero-mul, arith}
+use Rattle.std.proofs.Common.{◌≡◌, ℕ, zero, suc, ◌+◌, ◌-◌, ◌*◌, ◌<◌, ◌≤◌, Bool, true, cond, eqb, List, [], ◌∷◌, length, get_or, take, sum_by, sym, refl, ap, ◌∙◌, ap₂, add-zero, add_assoc, suc-mul, zero-mul, arith}
 use Rattle.std.proofs.lemmas.List.{length-take-le, get_or-take}
 use Rattle.std.proofs.lemmas.List.Sums.{sum_by-cons}
 use Rattle.std.proofs.lemmas.Bool.Decides.{nat_tests}
 use Rattle.matrix.specs.Count.{sum_below, grant, cell_count, count}
 use Rattle.matrix.specs.Grants.{in_range}
 use Rattle.matrix.proofs.Sums.{sum_same, sum_first}
-use Rattle.grid.specs.Cells.{bit, bits, cell_at, in_cells}
+use Rattle.grid.specs.Cells.{bit, bits, in_cells}
 use Rattle.grid.proofs.Bits.{bit_lt}
 use Rattle.grid.proofs.Writes.{bit_decides}
 

@@ -1,5 +1,5 @@
 -- The rights in the cells after one cell was written.
-use Rattle.std.proofs.Common.{◌≡◌, ℕ, ◌+◌, ◌-◌, ◌*◌, ◌^◌, ◌<◌, ◌≤◌, Bool, true, false, cond, not, ◌&&◌, ◌||◌, eqb, ◌≢◌, List, length, get_or, set, sym, refl, ap, ◌∙◌, ap₂, ⊎_elim, arith}
+use Rattle.std.proofs.Common.{◌≡◌, ℕ, ◌-◌, ◌*◌, ◌^◌, ◌≤◌, Bool, true, false, not, ◌&&◌, ◌||◌, eqb, ◌≢◌, List, length, get_or, set, sym, refl, ap, ◌∙◌, ap₂, ⊎_elim, arith}
 use lib.Bits.{bit_or, bit_xor}
 use Rattle.std.proofs.lemmas.List.{get_or-set_same, get_or-set_other}
 use Rattle.std.proofs.lemmas.Bool.{cases_eq, cases_Bool, and_parts, eqb-true, eq-eqb, ne_eqb}
@@ -9,7 +9,7 @@ use Rattle.matrix.specs.declared.grants.Grant.{Grant}
 use Rattle.matrix.proofs.Alikes.{same_is}
 use Rattle.matrix.proofs.Fillings.{range_in}
 use Rattle.grid.specs.Cells.{bit, cell_at, in_cells}
-use Rattle.grid.proofs.Bits.{bit_lt, bit_set_same, bit_set_other, bit_clear_same, bit_clear_other}
+use Rattle.grid.proofs.Bits.{bit_set_same, bit_set_other, bit_clear_same, bit_clear_other}
 use Rattle.grid.proofs.Places.{cell_lt, cell_one}
 
 abbrev on : ℕ → ℕ → Bool

@@ -1,4 +1,6 @@
 // One line of a lot file, from bytes to a value.
+#![tactic(auto)]
+
 mod faults;
 mod fields;
 mod kinds;

@@ -1,5 +1,5 @@
 -- How the number of the rights that a test lets through follows the test.
-use Rattle.std.proofs.Common.{◌≡◌, ℕ, zero, suc, ◌+◌, ◌*◌, ◌<◌, ◌≤◌, Bool, true, false, cond, not, ◌&&◌, ◌||◌, ◌≢◌, sym, refl, ap, ◌∙◌, mul_assoc, arith}
+use Rattle.std.proofs.Common.{◌≡◌, ℕ, zero, suc, ◌+◌, ◌*◌, ◌<◌, ◌≤◌, Bool, true, false, cond, ◌||◌, sym, refl, ap, ◌∙◌, mul_assoc, arith}
 use Rattle.matrix.specs.Count.{sum_below, grant, cell_count, count}
 use Rattle.matrix.specs.Grants.{same_grant, in_range}
 use Rattle.matrix.specs.declared.grants.Grant.{Grant}

@@ -1,5 +1,5 @@
 -- Lists of grants of which each is entered on what the one before it left.
-use Rattle.std.proofs.Common.{◌≡◌, ℕ, ◌+◌, ◌<◌, List, [], ◌∷◌, ◌++◌, length, get_or, take, sym, refl, ap, ◌∙◌, subst}
+use Rattle.std.proofs.Common.{◌≡◌, ℕ, ◌+◌, ◌<◌, List, [], ◌∷◌, ◌++◌, length, get_or, take, sym, refl, subst}
 use Rattle.std.proofs.lemmas.List.{take_more}
 use Rattle.matrix.specs.Standing.{Meaning}
 use Rattle.matrix.specs.Refusals.{enter_refusal}

@@ -2,7 +2,7 @@
 use Rattle.std.specs.Prelude.{◌≡◌, ℕ, ◌+◌, ◌≤◌, cond, ◌&&◌}
 use Rattle.matrix.specs.Grants.{names}
 use Rattle.matrix.specs.Count.{count}
-use Rattle.matrix.specs.Standing.{Standing, Meaning, entered, deleted, created, destroyed}
+use Rattle.matrix.specs.Standing.{Meaning, entered, deleted, created, destroyed}
 use Rattle.matrix.specs.declared.grants.Grant.{Grant}
 
 -- the room falls by exactly one if the right is new

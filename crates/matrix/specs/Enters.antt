@@ -1,5 +1,5 @@
 -- Grants entered one after the other, up to the first that is refused.
-use Rattle.std.specs.Prelude.{◌≡◌, ℕ, List, [], ◌∷◌, take, Some, Ok, Err, Result}
+use Rattle.std.specs.Prelude.{◌≡◌, List, [], ◌∷◌, take, Some, Ok, Err, Result}
 use Rattle.std.specs.List.{slice_get}
 use Rattle.matrix.specs.Standing.{Meaning}
 use Rattle.matrix.specs.Refusals.{enter_refusal, number_of}

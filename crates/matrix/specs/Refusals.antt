@@ -1,8 +1,8 @@
 -- The numbers of the refusals, and when each call of a matrix is refused with which.
-use Rattle.std.specs.Prelude.{ℕ, Bool, cond, not, ◌&&◌, ◌||◌, is_some, Ok, Err, Option, Result, ◌==◌, nat_lt}
+use Rattle.std.specs.Prelude.{ℕ, cond, ◌&&◌, ◌||◌, is_some, Ok, Err, Option, Result, ◌==◌, nat_lt}
 use Rattle.matrix.specs.Ranges.{within}
 use Rattle.matrix.specs.Grants.{in_range}
-use Rattle.matrix.specs.Standing.{Standing, Meaning}
+use Rattle.matrix.specs.Standing.{Meaning}
 use Rattle.matrix.specs.declared.grants.Grant.{Grant}
 use Rattle.matrix.specs.declared.faults.MatrixFault.{MatrixFault}
 use Rattle.matrix.specs.declared.faults.MatrixFault.TheVariants.{OutOfRange, WrongFilling, NoRoom}

@@ -1,5 +1,5 @@
 -- A register as a place-type table and a store of rights: what it shows, and why that is lawful.
-use Rattle.std.specs.Prelude.{◌≡◌, ℕ, ◌-◌, ◌≤◌, Bool, true, false, cond, Some, None, Option, slice_index, refl}
+use Rattle.std.specs.Prelude.{◌≡◌, ℕ, ◌-◌, ◌≤◌, Bool, true, false, cond, Some, None, slice_index, refl}
 use Rattle.std.proofs.Common.{sym, ap, ◌∙◌, arith}
 use Rattle.matrix.specs.Ranges.{within}
 use Rattle.matrix.specs.Standing.{Standing, Meaning, Lawful, stands}

@@ -1,5 +1,5 @@
 -- What a place-type table says: its places, and the type of each that is filled.
-use Rattle.std.specs.Prelude.{◌≡◌, ℕ, ◌-◌, min, Bool, true, false, cond, ◌&&◌, Some, None, Option, ◌==◌, slice_index, refl}
+use Rattle.std.specs.Prelude.{ℕ, ◌-◌, min, cond, ◌&&◌, Some, None, Option, ◌==◌, slice_index}
 use Rattle.matrix.specs.Ranges.{within}
 use Rattle.matrix.specs.declared.tables.PlaceTable.{PlaceTable}
 

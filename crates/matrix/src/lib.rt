@@ -1,4 +1,6 @@
 // What a matrix of rights means, as traits that every kind of matrix and register implements.
+#![tactic(auto)]
+
 mod enters;
 mod faults;
 mod grants;

@@ -1,4 +1,6 @@
 // One bounded list for every kind of record that can tell sameness: a slice of records and the number in use.
+#![tactic(auto)]
+
 ghost use Rattle.std.specs.Prelude.{◌≡◌, ◌≤◌, Bool, true, length, take, nat_lt};
 ghost use Rattle.std.specs.List.{slice_get};
 ghost use Rattle.records.specs.First.{first};

@@ -1,5 +1,5 @@
 -- No operation of a command destroys a parameter that the command creates, in whatever order they stand.
-use Rattle.std.proofs.Common.{◌≡◌, ℕ, true, false, not, ◌||◌, List, [], ◌∷◌, ◌++◌, take, sym, refl}
+use Rattle.std.proofs.Common.{◌≡◌, ℕ, true, false, ◌||◌, List, [], ◌∷◌, ◌++◌, take, sym, refl}
 use Rattle.std.proofs.lemmas.Bool.{and_parts, and_from, or_parts, not-true, not_from_false, eqb-false, ne_eqb}
 use Rattle.scheme.specs.Each.{every}
 use Rattle.scheme.specs.Lines.{names, creates, named, created, test_named}

@@ -1,4 +1,6 @@
 // Schemes of rights: how rights may travel, and a writer that accepts exactly the lawful schemes.
+#![tactic(auto)]
+
 mod commands;
 mod faults;
 mod judges;

@@ -1,6 +1,6 @@
 -- When a step is refused, and with which number.
-use Rattle.std.specs.Prelude.{ℕ, Bool, cond, ◌&&◌, ◌||◌, List, length, Some, None, Ok, Err, Option, Result, ◌==◌, nat_le}
-use Rattle.matrix.specs.Standing.{Standing, Meaning}
+use Rattle.std.specs.Prelude.{ℕ, cond, List, length, Some, None, Ok, Err, Option, Result, ◌==◌, nat_le}
+use Rattle.matrix.specs.Standing.{Meaning}
 use Rattle.scheme.specs.Each.{numbered}
 use Rattle.scheme.specs.Rules.{Rules, CommandRules, only_enters}
 use Rattle.step.specs.Steps.{places_fit, condition}

@@ -1,5 +1,5 @@
 -- Lists of steps that a register runs one after the other, up to the first that is refused.
-use Rattle.std.specs.Prelude.{◌≡◌, ℕ, List, [], ◌∷◌, map, take, Some, Ok, Err, Result}
+use Rattle.std.specs.Prelude.{◌≡◌, List, [], ◌∷◌, take, Some, Ok, Err, Result}
 use Rattle.std.specs.List.{slice_get}
 use Rattle.matrix.specs.Standing.{Meaning}
 use Rattle.scheme.specs.Rules.{Rules}

@@ -1,4 +1,6 @@
 // One command with actual places, judged and run on any matrix and on any register.
+#![tactic(auto)]
+
 mod faults;
 mod judges;
 mod lists;

@@ -1,4 +1,6 @@
 // A tour of the engine: small matrices in each kind, each call with its result in words.
+#![tactic(auto)]
+
 mod reads;
 mod runs;
 mod schemes;

@@ -1,5 +1,5 @@
 -- A right entered into a trial: which list of own rights follows, and what it means.
-use Rattle.std.proofs.Common.{◌≡◌, ℕ, ◌+◌, ◌-◌, ◌<◌, ◌≤◌, Bool, true, false, cond, ◌&&◌, ◌||◌, ltb, List, [], ◌∷◌, ◌++◌, length, sym, refl, ap, ◌∙◌, subst, arith}
+use Rattle.std.proofs.Common.{◌≡◌, ℕ, ◌-◌, ◌<◌, ◌≤◌, Bool, true, false, cond, ◌&&◌, ◌||◌, List, [], ◌∷◌, ◌++◌, length, ap, ◌∙◌, arith}
 use mathlib.Core.Path.{fun_ext}
 use mathlib.Core.HLevel.{is_prop→PathP}
 use native.Mathlib.Nat.{ℕ_set}
@@ -7,7 +7,7 @@ use Rattle.std.proofs.lemmas.List.{length_push}
 use Rattle.std.proofs.lemmas.Bool.{or_left, or_right, and_from, lt-ltb}
 use Rattle.matrix.specs.Grants.{same_grant}
 use Rattle.matrix.specs.Listed.{listed}
-use Rattle.matrix.specs.Standing.{Meaning, stands, entered}
+use Rattle.matrix.specs.Standing.{Meaning, stands}
 use Rattle.matrix.specs.Calls.{Entered}
 use Rattle.matrix.specs.Refusals.{delete_refusal, enter_refusal}
 use Rattle.matrix.specs.declared.grants.Grant.{Grant}

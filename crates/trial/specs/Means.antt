@@ -1,5 +1,5 @@
 -- What a trial means: what stands below together with its own rights; its room is 512 less those.
-use Rattle.std.specs.Prelude.{◌≡◌, ℕ, ◌-◌, Bool, true, ◌&&◌, ◌||◌, List, length, take}
+use Rattle.std.specs.Prelude.{◌≡◌, ◌-◌, true, ◌&&◌, ◌||◌, List, length, take}
 use Rattle.std.proofs.Common.{⊎_elim, arith}
 use Rattle.std.proofs.lemmas.Bool.{and_parts, or_cases}
 use Rattle.matrix.specs.Listed.{listed}

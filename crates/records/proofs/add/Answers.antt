@@ -1,6 +1,5 @@
-use Rattle.std.proofs.Common.{◌≡◌, false, take, is_some, sym, refl, ap, ◌∙◌, arith}
+use Rattle.std.proofs.Common.{take, is_some, sym, refl, ap, ◌∙◌, arith}
 use Rattle.std.proofs.lemmas.List.{take_more_set, length-take}
-use Rattle.records.specs.First.{first}
 use Rattle.records.proofs.Fronts.{joins, lacks}
 use Rattle.records.proofs.add.Goals as goal
 

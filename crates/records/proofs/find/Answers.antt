@@ -1,4 +1,4 @@
-use Rattle.std.proofs.Common.{◌≡◌, ℕ, take, ap, ◌∙◌, arith}
+use Rattle.std.proofs.Common.{ℕ, take, ap, ◌∙◌, arith}
 use Rattle.records.specs.First.{first}
 use Rattle.records.proofs.Fronts.{take-front}
 use Rattle.records.proofs.find.Goals as goal

@@ -1,7 +1,6 @@
-use Rattle.std.proofs.Common.{◌≡◌, ℕ, ◌-◌, Bool, true, false, cond, get_or, sym, ap, ◌∙◌, arith}
+use Rattle.std.proofs.Common.{sym, ap, ◌∙◌, arith}
 use Rattle.matrix.specs.Ranges.{within}
 use Rattle.matrix.specs.Stored.{few_places}
-use Rattle.matrix.specs.Tables.{table_places}
 use Rattle.matrix.proofs.Fillings.{within_in, no_place, read_some, read_none}
 use Rattle.matrix.proofs.tables.PlaceTable.type_of.Goals as goal
 

@@ -1,4 +1,4 @@
-use Rattle.std.proofs.Common.{◌≡◌, ℕ, ◌*◌, drop, None, ap, ◌∙◌, ap₂}
+use Rattle.std.proofs.Common.{◌≡◌, ℕ, ◌*◌, drop, None, ap, ◌∙◌}
 use Rattle.matrix.specs.Tables.{table_places, table_type, put_type}
 use Rattle.matrix.specs.declared.tables.PlaceTable.{PlaceTable}
 use Rattle.grid.proofs.Emptied.{destroyed}

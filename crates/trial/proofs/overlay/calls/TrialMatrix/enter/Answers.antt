@@ -1,11 +1,11 @@
-use Rattle.std.proofs.Common.{◌≡◌, ℕ, true, List, length, sym, refl, ◌∙◌, subst, arith}
+use Rattle.std.proofs.Common.{◌≡◌, List, length, sym, refl, subst, arith}
 use Rattle.std.proofs.lemmas.Bool.{or_left}
 use Rattle.matrix.specs.Calls.{Entered}
 use Rattle.matrix.specs.Grants.{same_grant}
 use Rattle.matrix.specs.Refusals.{delete_refusal}
 use Rattle.matrix.specs.declared.grants.Grant.{Grant}
 use Rattle.matrix.proofs.Listing.{when_added, when_there, when_full}
-use Rattle.trial.specs.Means.{over, own_list, own_rights}
+use Rattle.trial.specs.Means.{over, own_rights}
 use Rattle.trial.proofs.Overlays.{held-enters, own_held, full_lacks, own_goes, own-enters, same_trial}
 use Rattle.trial.proofs.overlay.calls.TrialMatrix.enter.Goals as goal
 
