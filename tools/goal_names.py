@@ -35,7 +35,7 @@ def main():
     with open(sys.argv[1], encoding="utf-8") as f:
         names = json.load(f)
     for key, value in names.items():
-        m = re.fullmatch(r"Rattle-\w+-proofs\.(.+)\.Lts", key)
+        m = re.fullmatch(r"Rattle-\w+-proofs\.(.+)\.Lts(?:-\w+)?", key)
         if not m:
             continue
         folder = os.path.join("proofs", *m.group(1).split("."))
@@ -64,6 +64,7 @@ def main():
 
             new = re.sub(r"(goal\.)(" + WORD + ")", turn, text)
             new = re.sub(r"(\b[cl]\.)(?!args|requires|ranges|initial|fn|type_inv|utf8)(" + WORD + ")", turn, new) if name == "Answers.antt" else new
+            new = re.sub(r"(Goals\.\{)([^}]*)", lambda m: m.group(1) + ", ".join(next(iter(known.get(plain(w), {w}))) for w in m.group(2).split(", ")), new)
             goals = set(re.findall(r"goal\.(" + WORD + ")", new))
             heads = {plain(g): g for g in goals}
             new = re.sub(r"(?m)^(pub |abbrev pub )?(" + WORD + r")(?=\s)", lambda m: (m.group(1) or "") + heads.get(plain(m.group(2)), m.group(2)), new)

@@ -1,6 +1,6 @@
 -- A field that leads, and the fields that follow it.
 use Rattle.std.proofs.Common.{◌≡◌, ℕ, ◌+◌, ◌*◌, ◌<◌, ◌≤◌, List, [], ◌∷◌, ◌++◌, map, length, decimal, sym, refl, ap, ◌∙◌, arith}
-use Rattle.std.specs.List.{AllByRecursion as All}
+use Rattle.std.specs.List.{AllByRecursion}
 use Rattle.std.proofs.lemmas.Fmt.{decimal_nonempty}
 use Rattle.std.proofs.ByRecursion.{All-append}
 use Rattle.std.proofs.lemmas.List.{length-append, append_assoc, append-nil, map-append}
@@ -31,14 +31,14 @@ spell-append : (fs gs : List Field) → spell_fields (fs ++ gs) ≡ spell_fields
 spell-append [] gs = refl
 spell-append (f ∷ fs) gs = ap (λ xs. 32 ∷ (spell_field f ++ xs)) (spell-append fs gs) ∙ ap (λ xs. 32 ∷ xs) (sym (append_assoc (spell_field f) (spell_fields fs) (spell_fields gs)))
 
-long_fields : (ns : List ℕ) → All WritableField (map number ns) → 2 * length ns ≤ length (spell_fields (map number ns))
+long_fields : (ns : List ℕ) → AllByRecursion WritableField (map number ns) → 2 * length ns ≤ length (spell_fields (map number ns))
 long_fields [] w = omega arith
 long_fields (n ∷ ns) w = omega (arith, length-append (decimal n) (spell_fields (map number ns)), decimal_nonempty n (omega arith), long_fields ns w.1)
 
 -- the loop over the fields: ns are read, rest is left
 abbrev pub Reading : (bytes ns rest : List ℕ) → Type 0
 Reading bytes ns rest =
-    All WritableField (map number ns)
+    AllByRecursion WritableField (map number ns)
     × (spell_fields (map number ns) ++ rest ≡ bytes)
     × ((ms : List ℕ) → NumberFields bytes ms → (ks : List ℕ) × NumberFields rest ks)
 

@@ -1,6 +1,6 @@
 -- No two lists of fields are spelled alike.
 use Rattle.std.proofs.Common.{◌≡◌, ℕ, List, [], ◌∷◌, ◌++◌, map, length, sym, refl, ap, ◌∙◌, arith}
-use Rattle.std.specs.List.{AllByRecursion as All}
+use Rattle.std.specs.List.{AllByRecursion}
 use Rattle.std.proofs.lemmas.List.{length-map}
 use Rattle.lines.specs.declared.values.TypeKind.TheVariants.{Subject, Object}
 use Rattle.lines.specs.Spelling.{Field, type_kind, number, spell_field, spell_fields, WritableField}
@@ -46,7 +46,7 @@ same_field (number m) (type_kind Subject) v w e = absurd (no_letter m 115 v (ome
 same_field (number m) (type_kind Object) v w e = absurd (no_letter m 111 v (omega arith) e)
 same_field (number m) (number n) v w e = ap number (same_number m n v w e)
 
-pub same_fields : (fs gs : List Field) → All WritableField fs → All WritableField gs → spell_fields fs ≡ spell_fields gs → fs ≡ gs
+pub same_fields : (fs gs : List Field) → AllByRecursion WritableField fs → AllByRecursion WritableField gs → spell_fields fs ≡ spell_fields gs → fs ≡ gs
 same_fields [] [] v w e = (refl)
 same_fields [] (g ∷ gs) v w e = absurd (omega (arith, ap length e))
 same_fields (f ∷ fs) [] v w e = absurd (omega (arith, ap length e))

@@ -1,6 +1,6 @@
 -- What the bytes of fields spell: the words of the private readers' contracts.
 use Rattle.std.specs.Prelude.{◌≡◌, ℕ, ◌≤◌, List, [], ◌∷◌, ◌++◌, map, decimal, ◌≢◌}
-use Rattle.std.specs.List.{AllByRecursion as All}
+use Rattle.std.specs.List.{AllByRecursion}
 use Rattle.lines.specs.declared.kinds.Kind.{Kind}
 use Rattle.lines.specs.Lines.{AbstractLine, kind_of}
 use Rattle.lines.specs.Spelling.{Field, number, fields_of, spell_fields, byte, WritableField}
@@ -11,7 +11,7 @@ Numeral bytes n = (n ≤ 9999) × (decimal n ≡ bytes)
 
 -- the bytes are these fields
 abbrev pub Fields : List ℕ → List Field → Type 0
-Fields bytes fs = All WritableField fs × (spell_fields fs ≡ bytes)
+Fields bytes fs = AllByRecursion WritableField fs × (spell_fields fs ≡ bytes)
 
 -- the bytes are fields that are these numbers
 abbrev pub NumberFields : List ℕ → List ℕ → Type 0
@@ -23,7 +23,7 @@ Ended [] = Unit {0}
 Ended (b ∷ bs) = b ≡ byte " "
 
 abbrev pub Spaceless : List ℕ → Type 0
-Spaceless bytes = All (λ b. b ≢ byte " ") bytes
+Spaceless bytes = AllByRecursion (λ b. b ≢ byte " ") bytes
 
 -- the bytes are a field that is the number n, and then others
 abbrev pub Leads : List ℕ → ℕ × List ℕ → Type 0

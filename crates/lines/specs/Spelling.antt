@@ -1,7 +1,7 @@
 -- How a line is spelled: the letter of its kind, and each field after one space.
 use Rattle.std.specs.Prelude.{◌≡◌, ℕ, ◌≤◌, List, [], ◌∷◌, ◌++◌, map, codes, decimal, slice_index}
 use Prim.Native.String.{String}
-use Rattle.std.specs.List.{AllByRecursion as All}
+use Rattle.std.specs.List.{AllByRecursion}
 use Rattle.lines.specs.declared.kinds.Kind.{Kind}
 use Rattle.lines.specs.declared.kinds.Kind.TheVariants as kind
 use Rattle.lines.specs.declared.values.TypeKind.{TypeKind}
@@ -73,7 +73,7 @@ WritableField (type_kind k) = Unit {0}
 WritableField (number n) = n ≤ 9999
 
 abbrev pub Writable : AbstractLine → Type 0
-Writable ℓ = All WritableField (fields_of ℓ)
+Writable ℓ = AllByRecursion WritableField (fields_of ℓ)
 
 -- the bytes spell the line ℓ
 abbrev pub Spells : List ℕ → AbstractLine → Type 0

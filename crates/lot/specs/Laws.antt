@@ -1,5 +1,5 @@
 -- The law of runs: what holds of every question in a history, for schemes that only grant.
-use Rattle.std.specs.Prelude.{◌≡◌, ℕ, ◌≤◌, Bool, true, false, ◌⊎◌, ◌↔◌, List, [], ◌∷◌, length, take}
+use Rattle.std.specs.Prelude.{◌≡◌, ℕ, ◌≤◌, true, false, ◌⊎◌, ◌↔◌, List, [], ◌∷◌, length, take}
 use Rattle.matrix.specs.Standing.{Standing, Meaning}
 use Rattle.matrix.specs.declared.grants.Grant.{Grant}
 use Rattle.scheme.specs.Rules.{Rules, only_grants}

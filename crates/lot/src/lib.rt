@@ -1,4 +1,6 @@
 // A lot: a scheme over a register, drawn up, opened, closed and asked.
+#![tactic(auto)]
+
 mod calls;
 mod faults;
 
