@@ -12,22 +12,22 @@ pub enum Answer {
     Foreign,
 }
 
-fn scheme_answer(res: Result<(), SchemeFault>) -> Answer {
-    match res {
+fn scheme_answer(told: Result<(), SchemeFault>) -> Answer {
+    match told {
         Ok(()) => Answer::Done,
         Err(fault) => Answer::Refused(fault.number()),
     }
 }
 
-fn matrix_answer(res: Result<(), MatrixFault>) -> Answer {
-    match res {
+fn matrix_answer(told: Result<(), MatrixFault>) -> Answer {
+    match told {
         Ok(()) => Answer::Done,
         Err(fault) => Answer::Refused(fault.number()),
     }
 }
 
-fn step_answer(res: Result<(), StepFault>) -> Answer {
-    match res {
+fn step_answer(told: Result<(), StepFault>) -> Answer {
+    match told {
         Ok(()) => Answer::Done,
         Err(fault) => Answer::Refused(fault.number()),
     }

@@ -8,3 +8,4 @@ pub mod Enters
 pub mod Tables
 pub mod Listed
 pub mod Stored
+pub mod Frames

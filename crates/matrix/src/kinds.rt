@@ -2,21 +2,18 @@ ghost use Rattle.std.specs.Prelude.{◌≡◌};
 ghost use Rattle.matrix.specs.Standing.{Meaning, Lawful};
 ghost use Rattle.matrix.specs.Refusals.{refusal, Accepted, Refused, enter_refusal, delete_refusal, create_refusal, destroy_refusal};
 ghost use Rattle.matrix.specs.Calls.{Entered, Deleted, Created, Destroyed};
+ghost use Rattle.matrix.specs.Frames.{Frame, no_more};
 
 use crate::{Grant, MatrixFault};
 
 // Who holds which right in what, and the room for new rights: `means` says it, and `lawful` that it keeps its bounds. `frame` says what an
-// enter leaves alone though the meaning does not show it, as the matrix below a trial; so do many enters, by `begins` and `chains`.
+// enter leaves alone though the meaning does not show it; a kind that does not give it promises no more than the meaning shows.
 pub trait Matrix {
     ghost means: { Self → Meaning };
 
     ghost lawful: { (x : Self) → Lawful (means x) };
 
-    ghost frame: { Self → Self → Type 0 };
-
-    ghost begins: { (x : Self) → frame x x };
-
-    ghost chains: { (x y z : Self) → frame x y → frame y z → frame x z };
+    ghost frame: { Frame Self } = { no_more };
 
     // How many places there are.
     fn places(&self) -> u16
@@ -39,7 +36,7 @@ pub trait Matrix {
         ensures told { refusal result ≡ enter_refusal (means self.old) grant }
         ensures after { Accepted result (Entered (means self.old) grant (means self.new)) }
         ensures same { Refused result (self.new ≡ self.old) }
-        ensures kept { frame self.old self.new };
+        ensures kept { frame.keeps self.old self.new };
 }
 
 // A matrix in which rights can be deleted and places created and destroyed.

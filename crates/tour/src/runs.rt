@@ -19,9 +19,9 @@ fn say_step(
     rt: &HostRuntime,
     number: u16,
     places: &[u16],
-    res: Result<(), StepFault>,
+    told: Result<(), StepFault>,
 ) -> io::Result<()> {
-    match res {
+    match told {
         Ok(()) => println!(rt; "command {number} at places {places:?}: done"),
         Err(fault) => {
             let refusal = fault.number();

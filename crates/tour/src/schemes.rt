@@ -10,8 +10,8 @@ fn scheme_words(fault: SchemeFault) -> &'static str {
     }
 }
 
-fn say(rt: &HostRuntime, call: &str, res: Result<(), SchemeFault>) -> io::Result<()> {
-    match res {
+fn say(rt: &HostRuntime, call: &str, told: Result<(), SchemeFault>) -> io::Result<()> {
+    match told {
         Ok(()) => println!(rt; "{call}: done"),
         Err(fault) => {
             let number = fault.number();

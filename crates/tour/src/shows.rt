@@ -18,8 +18,8 @@ fn memory_words(fault: MemoryFault) -> &'static str {
     }
 }
 
-pub fn say_result(rt: &HostRuntime, res: Result<(), MatrixFault>) -> io::Result<()> {
-    match res {
+pub fn say_result(rt: &HostRuntime, told: Result<(), MatrixFault>) -> io::Result<()> {
+    match told {
         Ok(()) => println!(rt; "done"),
         Err(fault) => {
             let number = fault.number();
@@ -29,8 +29,8 @@ pub fn say_result(rt: &HostRuntime, res: Result<(), MatrixFault>) -> io::Result<
     }
 }
 
-pub fn say_memory(rt: &HostRuntime, res: Result<(), MemoryFault>) -> io::Result<()> {
-    match res {
+pub fn say_memory(rt: &HostRuntime, told: Result<(), MemoryFault>) -> io::Result<()> {
+    match told {
         Ok(()) => println!(rt; "it serves"),
         Err(fault) => {
             let number = fault.number();

@@ -10,13 +10,6 @@ impl Matrix for GrantList<'_> {
 
     ghost lawful = { list_lawful };
 
-    // the meaning shows all that there is to leave alone
-    ghost frame = { λ _ _. Unit {0} };
-
-    ghost begins = { λ _. tt };
-
-    ghost chains = { λ _ _ _ _ _. tt };
-
     fn places(&self) -> u16 {
         self.table.places()
     }

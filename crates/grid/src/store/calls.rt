@@ -37,11 +37,7 @@ impl Matrix for Grid<'_> {
     ghost lawful = { grid_lawful };
 
     // the cells beyond n × n
-    ghost frame = { λ x y. beyond y ≡ beyond x };
-
-    ghost begins = { λ _. refl };
-
-    ghost chains = { λ _ _ _ p q. q ∙ p };
+    ghost frame = { record { keeps = λ x y. beyond y ≡ beyond x; begins = λ _. refl; chains = λ _ _ _ p q. q ∙ p } };
 
     fn places(&self) -> u16 {
         self.table.places()
@@ -69,7 +65,6 @@ impl Matrix for Grid<'_> {
         ensures after { Accepted result (Entered (grid_means self.old) grant (grid_means self.new)) }
         ensures same { Refused result (self.new ≡ self.old) }
         ensures rest { beyond self.new ≡ beyond self.old }
-        ensures kept { beyond self.new ≡ beyond self.old }
     {
         self.table.judge_grant(grant)?;
         let at = cell_of(grant, self.table.places());

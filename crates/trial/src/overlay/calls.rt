@@ -71,11 +71,7 @@ impl<M: Matrix> Matrix for Trial<M> {
     ghost lawful = { trial_lawful M.Matrix.means M.Matrix.lawful };
 
     // what stands below
-    ghost frame = { λ t u. u.below ≡ t.below };
-
-    ghost begins = { λ _. refl };
-
-    ghost chains = { λ _ _ _ p q. q ∙ p };
+    ghost frame = { record { keeps = λ t u. u.below ≡ t.below; begins = λ _. refl; chains = λ _ _ _ p q. q ∙ p } };
 
     fn places(&self) -> u16 {
         self.below.places()
@@ -100,7 +96,6 @@ impl<M: Matrix> Matrix for Trial<M> {
         ensures after { Accepted result (Entered (trial_means M.Matrix.means self.old) grant (trial_means M.Matrix.means self.new)) }
         ensures same { Refused result (self.new ≡ self.old) }
         ensures below { self.new.below ≡ self.old.below }
-        ensures kept { self.new.below ≡ self.old.below }
     {
         self.judge(grant)?;
         if self.below.is_held(grant) {

@@ -38,5 +38,4 @@ returns c =
       after = entered s.table s.cells.now g s.whole ok c.cell_of-at.result at s.sound _ mask;
       same = tt;
       rest = beyond-set s.table s.cells.now g s.whole ok c.cell_of-at.result at _;
-      kept = beyond-set s.table s.cells.now g s.whole ok c.cell_of-at.result at _;
     }

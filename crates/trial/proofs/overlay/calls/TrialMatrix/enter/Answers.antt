@@ -16,7 +16,7 @@ returns-then-is_held g c =
     let h = c.args.grant in
     let ok : 0 ≡ delete_refusal m h = c.in_ok-judge.ensures in
     let enters = held-enters m (own_rights s) h ok (or_left _ _ (sym c.if-is_held.ensures)) in
-    record { told = enters.0; after = enters.1; same = tt; below = refl; kept = refl }
+    record { told = enters.0; after = enters.1; same = tt; below = refl }
 
 pub returns-in-Added : goal.returns-in-Added
 returns-in-Added g c =
@@ -32,7 +32,6 @@ returns-in-Added g c =
           (own-enters m (own_rights s) h ok (sym c.if-is_held.ensures) new.0 (omega (arith, new.1, s.whole)));
       same = tt;
       below = refl;
-      kept = refl;
     }
 
 pub returns-in-AlreadyThere : goal.returns-in-AlreadyThere
@@ -48,7 +47,6 @@ returns-in-AlreadyThere g c =
       after = subst (λ (xs : List Grant). Entered (over m (own_rights s)) h (over m xs)) (sym e.after) enters.1;
       same = tt;
       below = refl;
-      kept = refl;
     }
 
 pub returns-in-Full : goal.returns-in-Full
@@ -64,5 +62,4 @@ returns-in-Full g c =
       after = tt;
       same = same_trial s c.add.new.self e.same _;
       below = refl;
-      kept = refl;
     }
