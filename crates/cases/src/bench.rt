@@ -1,102 +1,99 @@
-use lines::{Access, Line, TypeKind, read_line};
-use matrix::{Grant, MatrixFault, Register};
-use scheme::{Cell, Scheme, SchemeFault, SchemeWriter};
-use step::{StepFault, run_step};
+use crate::answers::{Answer, Reply, show_answer};
+use lines::{Line, read_line};
+use matrix::Register;
+use scheme::{Scheme, SchemeWriter};
+use std::io;
+use step::run_step;
 
-// What a line of a case is answered.
-pub enum Answer {
-    Done,
-    Refused(u16),
-    Held(bool),
-    // the line has no meaning in this kind of case
-    Foreign,
+// A writer, and the scheme that it finishes.
+#[derive(Drop)]
+pub struct Desk {
+    writer: SchemeWriter,
+    scheme: Scheme,
 }
 
-fn scheme_answer(told: Result<(), SchemeFault>) -> Answer {
-    match told {
-        Ok(()) => Answer::Done,
-        Err(fault) => Answer::Refused(fault.number()),
+impl Desk {
+    pub fn new() -> Desk {
+        Desk {
+            writer: SchemeWriter::new(),
+            scheme: Scheme::smallest(),
+        }
+    }
+
+    // The scheme that was finished last, and the smallest one before that.
+    pub fn scheme(&self) -> &Scheme {
+        &self.scheme
+    }
+
+    fn write_line(&mut self, line: Line) -> Answer {
+        match line {
+            Line::Declare(kind) => self.writer.declare_type(kind)?,
+            Line::Command(formals) => self.writer.open_command(formals.as_slice())?,
+            Line::Test(access) => self.writer.add_test(access.into())?,
+            Line::Enter(access) => self.writer.add_enter(access.into())?,
+            Line::Delete(access) => self.writer.add_delete(access.into())?,
+            Line::Create(parameter) => self.writer.add_create(parameter)?,
+            Line::Destroy(parameter) => self.writer.add_destroy(parameter)?,
+            Line::Grid(_) => self.writer.finish(&mut self.scheme)?,
+            _ => return Ok(Reply::Foreign),
+        }
+        Ok(Reply::Done)
+    }
+
+    // A line of a scheme; a line that opens a grid finishes the scheme.
+    fn write(&mut self, text: &str) -> Answer {
+        let line = read_line(text.as_bytes())?;
+        self.write_line(line)
+    }
+
+    // Writes lines of a scheme, and shows the answer to each.
+    pub fn write_all(&mut self, rt: &HostRuntime, texts: &[&str]) -> io::Result<()> {
+        for text in texts {
+            show_answer(rt, self.write(text))?;
+        }
+        Ok(())
     }
 }
 
-fn matrix_answer(told: Result<(), MatrixFault>) -> Answer {
-    match told {
-        Ok(()) => Answer::Done,
-        Err(fault) => Answer::Refused(fault.number()),
-    }
+// A scheme, and the register that its steps run on.
+#[derive(Drop)]
+pub struct Bench<'a, R> {
+    scheme: &'a Scheme,
+    register: R,
 }
 
-fn step_answer(told: Result<(), StepFault>) -> Answer {
-    match told {
-        Ok(()) => Answer::Done,
-        Err(fault) => Answer::Refused(fault.number()),
+impl<'a, R: Register> Bench<'a, R> {
+    pub fn new(scheme: &'a Scheme, register: R) -> Bench<'a, R> {
+        Bench { scheme, register }
     }
-}
 
-fn cell(access: Access) -> Cell {
-    Cell {
-        right: access.right,
-        row: access.row,
-        column: access.column,
+    fn run_line(&mut self, line: Line) -> Answer {
+        match line {
+            Line::Place { place, type_number } => self.register.create(place, type_number)?,
+            Line::Hold(access) => self.register.enter(access.into())?,
+            Line::Step { command, places } => run_step(
+                self.scheme,
+                &mut self.register,
+                command,
+                places.as_slice(),
+            )?,
+            Line::Ask(access) => return Ok(Reply::Held(self.register.is_held(access.into()))),
+            _ => return Ok(Reply::Foreign),
+        }
+        Ok(Reply::Done)
     }
-}
 
-fn grant(access: Access) -> Grant {
-    Grant {
-        right: access.right,
-        row: access.row,
-        column: access.column,
+    // A line on the register; a question asks what is held now.
+    fn run(&mut self, text: &str) -> Answer {
+        let line = read_line(text.as_bytes())?;
+        self.run_line(line)
     }
-}
 
-fn type_kind(kind: TypeKind) -> scheme::TypeKind {
-    match kind {
-        TypeKind::Subject => scheme::TypeKind::Subject,
-        TypeKind::Object => scheme::TypeKind::Object,
-    }
-}
-
-fn write_line(writer: &mut SchemeWriter, scheme: &mut Scheme, line: Line) -> Answer {
-    match line {
-        Line::Declare(kind) => scheme_answer(writer.declare_type(type_kind(kind))),
-        Line::Command(formals) => scheme_answer(writer.open_command(formals.as_slice())),
-        Line::Test(access) => scheme_answer(writer.add_test(cell(access))),
-        Line::Enter(access) => scheme_answer(writer.add_enter(cell(access))),
-        Line::Delete(access) => scheme_answer(writer.add_delete(cell(access))),
-        Line::Create(parameter) => scheme_answer(writer.add_create(parameter)),
-        Line::Destroy(parameter) => scheme_answer(writer.add_destroy(parameter)),
-        Line::Grid(_) => scheme_answer(writer.finish(scheme)),
-        _ => Answer::Foreign,
-    }
-}
-
-fn run_line<R: Register>(scheme: &Scheme, register: &mut R, line: Line) -> Answer {
-    match line {
-        Line::Place { place, type_number } => matrix_answer(register.create(place, type_number)),
-        Line::Hold(access) => matrix_answer(register.enter(grant(access))),
-        Line::Step { command, places } => step_answer(run_step(
-            scheme,
-            register,
-            command,
-            places.as_slice(),
-        )),
-        Line::Ask(access) => Answer::Held(register.is_held(grant(access))),
-        _ => Answer::Foreign,
-    }
-}
-
-// A line of a scheme; a line that opens a grid finishes the scheme.
-pub fn write_text(writer: &mut SchemeWriter, scheme: &mut Scheme, text: &str) -> Answer {
-    match read_line(text.as_bytes()) {
-        Ok(line) => write_line(writer, scheme, line),
-        Err(fault) => Answer::Refused(fault.number()),
-    }
-}
-
-// A line on a register; a question asks what is held now.
-pub fn run_text<R: Register>(scheme: &Scheme, register: &mut R, text: &str) -> Answer {
-    match read_line(text.as_bytes()) {
-        Ok(line) => run_line(scheme, register, line),
-        Err(fault) => Answer::Refused(fault.number()),
+    // Runs lines on the register, and shows the answer to each.
+    pub fn run_all(&mut self, rt: &HostRuntime, texts: &[&str]) -> io::Result<()> {
+        for text in texts {
+            show_answer(rt, self.run(text))?;
+        }
+        Ok(())
     }
 }

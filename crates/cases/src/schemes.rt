@@ -1,32 +1,12 @@
-use crate::bench::write_text;
-use crate::show_answer;
-use scheme::{Scheme, SchemeWriter};
+use crate::bench::Desk;
 use std::io;
 
 // One subject type, one pure object type.
 const TYPES: [&str; 2] = ["t s", "t o"];
 
-fn write_all(
-    rt: &HostRuntime,
-    writer: &mut SchemeWriter,
-    scheme: &mut Scheme,
-    texts: &[&str],
-) -> io::Result<()> {
-    for text in texts {
-        show_answer(rt, write_text(writer, scheme, text))?;
-    }
-    Ok(())
-}
-
-fn write_often(
-    rt: &HostRuntime,
-    writer: &mut SchemeWriter,
-    scheme: &mut Scheme,
-    times: u16,
-    texts: &[&str],
-) -> io::Result<()> {
+fn write_often(rt: &HostRuntime, desk: &mut Desk, times: u16, texts: &[&str]) -> io::Result<()> {
     for _ in 0..times {
-        write_all(rt, writer, scheme, texts)?;
+        desk.write_all(rt, texts)?;
     }
     Ok(())
 }
@@ -40,13 +20,12 @@ fn case(
     repeated: &[&str],
     last: &[&str],
 ) -> io::Result<()> {
-    let mut writer = SchemeWriter::new();
-    let mut scheme = Scheme::smallest();
+    let mut desk = Desk::new();
     print!(rt; "{name}:")?;
-    write_all(rt, &mut writer, &mut scheme, &TYPES)?;
-    write_all(rt, &mut writer, &mut scheme, first)?;
-    write_often(rt, &mut writer, &mut scheme, times, repeated)?;
-    write_all(rt, &mut writer, &mut scheme, last)?;
+    desk.write_all(rt, &TYPES)?;
+    desk.write_all(rt, first)?;
+    write_often(rt, &mut desk, times, repeated)?;
+    desk.write_all(rt, last)?;
     println!(rt)
 }
 

@@ -1,9 +1,8 @@
-use crate::bench::{run_text, write_text};
-use crate::show_answer;
+use crate::bench::{Bench, Desk};
 use grant_list::GrantList;
 use grid::Grid;
 use matrix::{Grant, Register};
-use scheme::{Scheme, SchemeWriter};
+use scheme::Scheme;
 use std::io;
 
 // 1: enter, no tests. 2: a holder grants further. 3: delete and enter the same right. 4: enter, delete, enter.
@@ -18,36 +17,20 @@ const SCHEME: [&str; 32] = [
 // Places 1 and 2 are subjects, 3 is a pure object, 4 is empty.
 const PLACES: [&str; 3] = ["p 1 1", "p 2 1", "p 3 2"];
 
-fn write_scheme(rt: &HostRuntime, scheme: &mut Scheme) -> io::Result<()> {
-    let mut writer = SchemeWriter::new();
+fn write_scheme(rt: &HostRuntime, desk: &mut Desk) -> io::Result<()> {
     print!(rt; "the scheme:")?;
-    for text in &SCHEME {
-        show_answer(rt, write_text(&mut writer, scheme, text))?;
-    }
+    desk.write_all(rt, &SCHEME)?;
     println!(rt)
 }
 
-fn run_all<R: Register>(
+fn on_register<R: Register + Drop>(
     rt: &HostRuntime,
-    scheme: &Scheme,
-    register: &mut R,
+    mut bench: Bench<R>,
     texts: &[&str],
 ) -> io::Result<()> {
-    for text in texts {
-        show_answer(rt, run_text(scheme, register, text))?;
-    }
-    Ok(())
-}
-
-fn on_register<R: Register>(
-    rt: &HostRuntime,
-    scheme: &Scheme,
-    register: &mut R,
-    texts: &[&str],
-) -> io::Result<()> {
-    run_all(rt, scheme, register, &PLACES)?;
+    bench.run_all(rt, &PLACES)?;
     print!(rt; " |")?;
-    run_all(rt, scheme, register, texts)?;
+    bench.run_all(rt, texts)?;
     println!(rt)
 }
 
@@ -63,11 +46,15 @@ fn case(rt: &HostRuntime, scheme: &Scheme, name: &str, texts: &[&str]) -> io::Re
     let mut two = [none; 2];
     println!(rt; "{name}")?;
     print!(rt; "  grid:")?;
-    on_register(rt, scheme, &mut Grid::open(&mut cells, 4), texts)?;
+    on_register(rt, Bench::new(scheme, Grid::open(&mut cells, 4)), texts)?;
     print!(rt; "  list of 3:")?;
-    on_register(rt, scheme, &mut GrantList::open(&mut three, 4), texts)?;
+    on_register(
+        rt,
+        Bench::new(scheme, GrantList::open(&mut three, 4)),
+        texts,
+    )?;
     print!(rt; "  list of 2:")?;
-    on_register(rt, scheme, &mut GrantList::open(&mut two, 4), texts)
+    on_register(rt, Bench::new(scheme, GrantList::open(&mut two, 4)), texts)
 }
 
 fn effects(rt: &HostRuntime, scheme: &Scheme) -> io::Result<()> {
@@ -180,10 +167,11 @@ fn pairs(rt: &HostRuntime, scheme: &Scheme) -> io::Result<()> {
 
 // What steps do on each kind of register, and with which number they are refused.
 pub fn step_cases(rt: &HostRuntime) -> io::Result<()> {
-    let mut scheme = Scheme::smallest();
-    write_scheme(rt, &mut scheme)?;
-    effects(rt, &scheme)?;
-    transfers(rt, &scheme)?;
-    refusals(rt, &scheme)?;
-    pairs(rt, &scheme)
+    let mut desk = Desk::new();
+    write_scheme(rt, &mut desk)?;
+    let scheme = desk.scheme();
+    effects(rt, scheme)?;
+    transfers(rt, scheme)?;
+    refusals(rt, scheme)?;
+    pairs(rt, scheme)
 }

@@ -1,4 +1,5 @@
 use lines::read_line;
+use refusals::Fault;
 use std::io;
 
 // Lines, and texts that are none.

@@ -1,5 +1,5 @@
 -- The bits of a cell: one set, one cleared, and how many there are.
-use Rattle.std.proofs.Common.{◌≡◌, ℕ, zero, suc, ◌+◌, ◌-◌, ◌*◌, ◌/◌, ◌%◌, ◌^◌, ◌<◌, ◌≤◌, max, ◌≢◌, List, [], ◌∷◌, length, sum_by, sym, refl, ap, ◌∙◌, subst, ap₂, ⊎_elim, mod-lt, pow-suc, div-one, add-one, arith, lit<}
+use Rattle.std.proofs.Common.{◌≡◌, ℕ, zero, suc, ◌+◌, ◌-◌, ◌*◌, ◌/◌, ◌%◌, ◌^◌, ◌<◌, ◌≤◌, max, ◌≢◌, List, [], ◌∷◌, length, get_or, sum_by, sym, refl, ap, ◌∙◌, subst, ap₂, ⊎_elim, mod-lt, pow-suc, div-one, add-one, arith, lit<}
 use native.Mathlib.Nat.{div-eq_of_lt, div_self, mul-mod_left}
 use lib.Bits.{bit_or, bit_xor, or_step, xor_step, differ}
 use lib.Count.{ones, ones_step}
@@ -64,6 +64,10 @@ ones_below (suc d) c h =
 pub ones_bits : (c : ℕ) → c < 2 ^ 32 → ones c ≡ bits c
 unfolding bits
 ones_bits c h = ones_below 32 c h
+
+pub ones_cells : (cells : List ℕ) → ((k : ℕ) → get_or cells k 0 < 2 ^ 32) → sum_by ones cells ≡ sum_by bits cells
+ones_cells [] h = refl
+ones_cells (c ∷ cells) h = sum_by-cons ones c cells ∙ ap₂ (λ (x y : ℕ). x + y) (ones_bits c (h 0)) (ones_cells cells (λ k. h (suc k))) ∙ sym (sum_by-cons bits c cells)
 
 pub held_le : (cells : List ℕ) → sum_by bits cells ≤ 32 * length cells
 held_le [] = omega arith

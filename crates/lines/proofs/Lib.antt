@@ -1,6 +1,5 @@
 pub mod Numerals
 pub mod Spellings
-pub mod Shapes
+pub mod Splits
 pub mod Leads
-pub mod Arities
 pub mod Whole

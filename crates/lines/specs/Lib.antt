@@ -4,3 +4,4 @@ pub mod Spelling
 pub mod Reads
 pub mod Found
 pub mod Fields
+pub mod Words

@@ -1,8 +1,9 @@
 -- What a line says, and what kind of line it is.
-use Rattle.std.specs.Prelude.{ℕ, List, take}
+use Rattle.std.specs.Prelude.{ℕ, List}
+use Rattle.records.specs.Arrays.{elements}
 use Rattle.lines.specs.declared.kinds.Kind.{Kind}
 use Rattle.lines.specs.declared.kinds.Kind.TheVariants as kind
-use Rattle.lines.specs.declared.values.TypeKind.{TypeKind}
+use Rattle.scheme.specs.declared.lines.TypeKind.{TypeKind}
 use Rattle.lines.specs.declared.values.Numbers.{Numbers}
 use Rattle.lines.specs.declared.values.Line.{Line}
 use Rattle.lines.specs.declared.values.Line.TheVariants as line
@@ -27,7 +28,7 @@ pub data AbstractLine : Type 0 where
 
 -- the numbers in use
 abbrev pub numbers_of : Numbers → List ℕ
-numbers_of n = take n.count n.numbers
+numbers_of n = elements n.numbers
 
 -- what a line that was read says
 abbrev pub said : Line → AbstractLine

@@ -4,8 +4,8 @@ use Prim.Native.String.{String}
 use Rattle.std.specs.List.{AllByRecursion}
 use Rattle.lines.specs.declared.kinds.Kind.{Kind}
 use Rattle.lines.specs.declared.kinds.Kind.TheVariants as kind
-use Rattle.lines.specs.declared.values.TypeKind.{TypeKind}
-use Rattle.lines.specs.declared.values.TypeKind.TheVariants.{Subject, Object}
+use Rattle.scheme.specs.declared.lines.TypeKind.{TypeKind}
+use Rattle.scheme.specs.declared.lines.TypeKind.TheVariants.{Subject, Object}
 use Rattle.lines.specs.Lines.{AbstractLine, declares, opens, tests, enters, deletes, creates, destroys, grid, grants, fills, holds, steps, closes, asks, reopens, kind_of}
 
 -- the byte of a text of one letter

@@ -2,6 +2,8 @@ ghost use Rattle.std.specs.Prelude.{◌≡◌};
 ghost use Rattle.lines.specs.Spelling.{letter_of};
 ghost use Rattle.lines.specs.Found.{Found};
 
+use std::fmt;
+
 // What a line is, told from its letter alone.
 #[derive(Clone, Copy, PartialEq, Eq, Debug)]
 pub enum Kind {
@@ -45,5 +47,32 @@ impl Kind {
             'o' => Some(Kind::Reopen),
             _ => None,
         }
+    }
+}
+
+impl fmt::Display for Kind {
+    ghost use Rattle.std.specs.Prelude.{Some};
+    ghost use Rattle.lines.specs.Words.{kind_words};
+
+    ghost output = { λ k. Some (kind_words k) };
+
+    fn fmt<W: fmt::Write>(&self, f: &mut fmt::Formatter<W>) -> fmt::Result {
+        f.write_str(match self {
+            Kind::Declare => "declares a type",
+            Kind::Command => "opens a command",
+            Kind::Test => "adds a test",
+            Kind::Enter => "adds an enter",
+            Kind::Delete => "adds a delete",
+            Kind::Create => "adds a create",
+            Kind::Destroy => "adds a destroy",
+            Kind::Grid => "opens a grid",
+            Kind::Grants => "opens a grant list",
+            Kind::Place => "fills a place",
+            Kind::Hold => "enters a first right",
+            Kind::Step => "runs a step",
+            Kind::Close => "closes the lot",
+            Kind::Ask => "asks a question",
+            Kind::Reopen => "reopens the lot",
+        })
     }
 }

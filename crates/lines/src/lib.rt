@@ -10,4 +10,5 @@ mod values;
 pub use faults::LineFault;
 pub use kinds::Kind;
 pub use reading::read_line;
-pub use values::{Access, Line, Numbers, TypeKind};
+pub use scheme::TypeKind;
+pub use values::{Access, Line, Numbers};

@@ -1,55 +1,41 @@
-ghost use Rattle.std.specs.Prelude.{◌≡◌, ◌+◌, ◌<◌, [], ◌∷◌, ◌++◌};
+ghost use Rattle.std.specs.Prelude.{◌≡◌, ◌<◌, [], ◌∷◌, ◌++◌, length};
 ghost use Rattle.lines.specs.Lines.{said, kind_of, numbers_of};
 
 use crate::kinds::Kind;
+use matrix::Grant;
+use records::ArrayList;
+use scheme::{Cell, TypeKind};
 
-// Whose type is declared, a subject's or an object's.
-#[derive(Clone, Copy, PartialEq, Eq, Debug)]
-pub enum TypeKind {
-    Subject,
-    Object,
-}
-
-// The numbers of a line: the first `count`.
-#[derive(Clone, Copy)]
+// The numbers of a line.
+#[derive(Clone, Copy, PartialEq, Eq)]
 pub struct Numbers {
-    numbers: [u16; 20],
-    count: usize,
+    numbers: ArrayList<u16, 20>,
 }
 
 impl Numbers {
     pub(crate) fn new() -> Numbers
-        ensures items { numbers_of result ≡ [] }
-        ensures count { result.count ≡ 0 }
+        ensures { numbers_of result ≡ [] }
     {
         Numbers {
-            numbers: [0; 20],
-            count: 0,
+            numbers: ArrayList::new(0),
         }
     }
 
     pub(crate) fn push(&mut self, n: u16)
-        requires { self.old.count < 20 }
-        ensures items { numbers_of self.new ≡ numbers_of self.old ++ (n ∷ []) }
-        ensures count { self.new.count ≡ self.old.count + 1 }
+        requires { length (numbers_of self.old) < 20 }
+        ensures { numbers_of self.new ≡ numbers_of self.old ++ (n ∷ []) }
     {
-        self.numbers[self.count] = n;
-        self.count += 1;
+        let _ = self.numbers.push(n);
     }
 
-    // The numbers in use.
     pub fn as_slice(&self) -> &[u16]
         ensures { result.now ≡ numbers_of self.now }
     {
-        if self.count < 20 {
-            &self.numbers[0..self.count]
-        } else {
-            &self.numbers
-        }
+        self.numbers.as_slice()
     }
 }
 
-// A right at a row and a column: of parameters in a command, of places elsewhere.
+// A right at a row and a column: of parameters in a command, of places elsewhere. So it is no cell and no grant yet, but becomes either.
 #[derive(Clone, Copy, PartialEq, Eq, Debug)]
 pub struct Access {
     pub right: u16,
@@ -57,8 +43,28 @@ pub struct Access {
     pub column: u16,
 }
 
+// Of parameters, in a command.
+impl From<Access> for Cell {
+    ghost from_gives = { λ a c. c ≡ record { right = a.right; row = a.row; column = a.column } };
+
+    fn from(access: Access) -> Cell {
+        let Access { right, row, column } = access;
+        Cell { right, row, column }
+    }
+}
+
+// Of places.
+impl From<Access> for Grant {
+    ghost from_gives = { λ a g. g ≡ record { right = a.right; row = a.row; column = a.column } };
+
+    fn from(access: Access) -> Grant {
+        let Access { right, row, column } = access;
+        Grant { right, row, column }
+    }
+}
+
 // One line, taken apart.
-#[derive(Clone, Copy)]
+#[derive(Clone, Copy, PartialEq, Eq)]
 pub enum Line {
     // Declares a type.
     Declare(TypeKind),

@@ -1,5 +1,5 @@
 -- The closing of the lot of four places: a plan of three steps, after which no step adds anything.
-use Rattle.std.proofs.Common.{◌≡◌, ℕ, zero, suc, ◌-◌, ◌<◌, ◌≤◌, Bool, true, false, cond, not, ◌&&◌, ◌||◌, leb, List, [], ◌∷◌, length, is_some, Some, None, Option, refl, ap, ◌∙◌, arith, lit<, lit≤}
+use Rattle.std.proofs.Common.{◌≡◌, ℕ, zero, suc, ◌-◌, ◌<◌, ◌≤◌, Bool, true, false, cond, not, ◌&&◌, ◌||◌, leb, List, [], ◌∷◌, length, Some, None, Option, refl, ap, ◌∙◌, arith, lit<, lit≤}
 use Rattle.std.specs.List.{slice_get}
 use Rattle.std.proofs.lemmas.Bool.{false≢true, leb-true}
 use Rattle.std.proofs.lemmas.Bool.Decides.{nat_tests}
@@ -23,7 +23,10 @@ use Rattle.lot.specs.Marked.{first_command, second_command, four_rules, four_pla
 
 -- command 1 at 1 2 4 and at 1 3 4, then command 2 at 2 3 4
 abbrev plan-step : ℕ → ℕ → ℕ → ℕ → PlanStep
-plan-step k a b c = record { step = record { command = k; places = a ∷ b ∷ c ∷ 0 ∷ 0 ∷ []; used = 3 }; marks = true ∷ false ∷ false ∷ false ∷ false ∷ false ∷ [] }
+plan-step k a b c = record {
+  step = record { command = k; places = record { records = a ∷ b ∷ c ∷ []; used = 3 } };
+  marks = record { records = true ∷ []; used = 1 };
+}
 
 abbrev pub four_plan : List PlanStep
 four_plan = plan-step 1 1 2 4 ∷ plan-step 1 1 3 4 ∷ plan-step 2 2 3 4 ∷ []
@@ -51,7 +54,7 @@ four_shows : shown_with four_places four_own ≡ four_full
 four_shows = λ j. record { places = 4; type_at = four_places.type_at; held = λ g. at g j }
   where
     joined : (h s a b c : Bool) → (a ≡ true → s ≡ true) → (b ≡ true → s ≡ true) → (c ≡ true → s ≡ true)
-        → (h || (s && is_some {T = ℕ} (cond a (Some 0) (cond b (Some 1) (cond c (Some 2) None))))) ≡ (((h || a) || b) || c)
+        → (h || (s && (a || (b || (c || false))))) ≡ (((h || a) || b) || c)
     joined true s a b c f k l = refl
     joined false true true b c f k l = refl
     joined false true false true c f k l = refl
@@ -113,7 +116,7 @@ idle_at c a b d u v w all at_a at_b at-d ok =
     by false y gs e f k = absurd (false≢true f)
 
 -- places that fit have the formal types
-three_fit : (a b c d e f : Bool) → (((true && (a && d)) && (b && e)) && (c && f)) ≡ true → (a ≡ true) × (b ≡ true) × (c ≡ true)
+three_fit : (a b c d e f : Bool) → ((a && d) && ((b && e) && ((c && f) && true))) ≡ true → (a ≡ true) × (b ≡ true) × (c ≡ true)
 three_fit a b c d e f h = (grind (arith, nat_tests), grind (arith, nat_tests), grind (arith, nat_tests))
 
 first_idle : (places : List ℕ) → Permits first_command four_full places → fresh four_full.held (enters_of places first_command.operations) ≡ []

@@ -1,5 +1,5 @@
 -- The law of runs.
-use Rattle.std.proofs.Common.{◌≡◌, Bool, true, false, List, [], ◌∷◌, sym, refl, ap, ◌∙◌, subst}
+use Rattle.std.proofs.Common.{◌≡◌, Bool, true, false, List, [], ◌∷◌, sym, refl, ap, ◌∙◌, subst, Ok, Err, None, Some}
 use Rattle.std.proofs.lemmas.Bool.{and_right, or_from}
 use Rattle.matrix.specs.Standing.{Standing, Meaning, stands}
 use Rattle.matrix.specs.declared.grants.Grant.{Grant}
@@ -13,12 +13,11 @@ use Rattle.step.proofs.Sequences.{ran_all}
 use Rattle.trial.specs.Means.{shown_with}
 use Rattle.closing.specs.Closes.{Closing, Closes}
 use Rattle.lot.specs.Questions.{EndsAs}
-use Rattle.lot.specs.Histories.{refusal_of, Phase, State, Entry, Stepped, Answered, Called, History}
+use Rattle.lot.specs.Histories.{Answer, refusal_of, Phase, State, Entry, Stepped, Answered, Called, History}
 use Rattle.lot.specs.Histories.Phase.{opened, closed}
 use Rattle.lot.specs.Laws.{own_of, Absent, AbsentAfter, QuestionLaw, CallLaw, LawOf, Law}
 use Rattle.lot.proofs.Shown.{held-reached, shown-reached, judged_valid, answer-number, safe_law, held_law, leaks_law, size_law, only_law}
-use Rattle.lot.specs.declared.calls.Answer.{Answer}
-use Rattle.lot.specs.declared.calls.Answer.TheVariants.{Done, Told, StepRefused, AskRefused}
+use Rattle.lot.specs.declared.calls.CallFault.TheVariants as fault
 use Rattle.lot.specs.declared.calls.Call.{Call}
 use Rattle.lot.specs.declared.calls.Call.TheVariants.{Step, Close, Ask, Reopen}
 
@@ -55,10 +54,10 @@ ran_back σ m n t g ok made r =
     record { steps = t ∷ next.steps; permitted = (ran.permitted.0, next.permitted); held = next.held }
 
 stepped_back : (σ : Rules) (m n : Meaning) (t : StepRules) (a : Answer) (g : Grant) → Stepped σ m t a n → Reaches σ n.standing g → Reaches σ m.standing g
-stepped_back σ m n t Done g h r = ran_back σ m n t g h.0 h.1 r
-stepped_back σ m n t (Told v) g h r = absurd h
-stepped_back σ m n t (StepRefused f) g h r = subst (λ (x : Meaning). Reaches σ x.standing g) h.1 r
-stepped_back σ m n t (AskRefused f) g h r = absurd h
+stepped_back σ m n t (Ok None) g h r = ran_back σ m n t g h.0 h.1 r
+stepped_back σ m n t (Ok (Some v)) g h r = absurd h
+stepped_back σ m n t (Err (fault.Step f)) g h r = subst (λ (x : Meaning). Reaches σ x.standing g) h.1 r
+stepped_back σ m n t (Err (fault.Ask f)) g h r = absurd h
 
 -- so it is with every call
 same_back : (σ : Rules) (l n : State) (g : Grant) → n ≡ l → Reaches σ n.register.standing g → Reaches σ l.register.standing g

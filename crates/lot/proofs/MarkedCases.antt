@@ -1,5 +1,5 @@
 -- The marked cases hold.
-use Rattle.std.proofs.Common.{◌≡◌, ℕ, Bool, true, false, cond, leb, List, [], ◌∷◌, refl, ap, ◌∙◌, arith}
+use Rattle.std.proofs.Common.{◌≡◌, ℕ, Bool, true, false, cond, leb, List, [], ◌∷◌, refl, ap, ◌∙◌, arith, Ok, Err, None, Some}
 use Rattle.std.proofs.lemmas.Bool.{both_ways, cond-true, le-leb}
 use Rattle.matrix.specs.Count.{grant}
 use Rattle.matrix.specs.Standing.{Standing, Meaning}
@@ -9,12 +9,11 @@ use Rattle.step.specs.Permitted.{Reaches, Addable, MoreThan}
 use Rattle.closing.specs.Closes.{Closing, Closes}
 use Rattle.closing.proofs.Verdicts.{closed-reached, short-many, done_few}
 use Rattle.lot.specs.Questions.{valid}
-use Rattle.lot.specs.Histories.{refusal_of, Answered}
+use Rattle.lot.specs.Histories.{Answer, refusal_of, Answered}
 use Rattle.lot.specs.Marked.{four_rules, four_places, Tells, MarkedCases}
 use Rattle.lot.proofs.Shown.{shown-reached, judged_valid, answer-number, safe_law, held_law}
 use Rattle.lot.proofs.FourPlaces.{four_closing, four_closes}
-use Rattle.lot.specs.declared.calls.Answer.{Answer}
-use Rattle.lot.specs.declared.calls.Answer.TheVariants.{Done, Told, StepRefused, AskRefused}
+use Rattle.lot.specs.declared.calls.CallFault.TheVariants as fault
 use Rattle.lot.specs.declared.calls.Verdict.TheVariants.{Held, Leaks, Safe}
 use Rattle.lot.specs.declared.faults.AskFault.TheVariants.{WrongCell, MoreThanGrants, TooManyRights}
 
@@ -32,20 +31,20 @@ not_refused g v c a closes h =
     answer-number four_rules four_places c g a h ∙ judged_valid four_rules four_places c.short g refl v ∙ ap (λ (b : Bool). cond b 15 0) (never-short c closes)
 
 -- an answer that is neither "held" nor "safe"
-third : (a : Answer) (c : Closing) (g : Grant) → Answered four_rules four_places c g a → refusal_of a ≡ 0 → (a ≡ Told Held → ⊥) → (a ≡ Told Safe → ⊥) → (m : ℕ) × (a ≡ Told (Leaks m))
-third Done c g h z x y = absurd h
-third (Told Held) c g h z x y = absurd (x refl)
-third (Told (Leaks m)) c g h z x y = (m, refl)
-third (Told Safe) c g h z x y = absurd (y refl)
-third (StepRefused f) c g h z x y = absurd h
-third (AskRefused WrongCell) c g h z x y = absurd (omega arith)
-third (AskRefused MoreThanGrants) c g h z x y = absurd (omega arith)
-third (AskRefused TooManyRights) c g h z x y = absurd (omega arith)
+third : (a : Answer) (c : Closing) (g : Grant) → Answered four_rules four_places c g a → refusal_of a ≡ 0 → (a ≡ Ok (Some Held) → ⊥) → (a ≡ Ok (Some Safe) → ⊥) → (m : ℕ) × (a ≡ Ok (Some (Leaks m)))
+third (Ok None) c g h z x y = absurd h
+third (Ok (Some Held)) c g h z x y = absurd (x refl)
+third (Ok (Some (Leaks m))) c g h z x y = (m, refl)
+third (Ok (Some Safe)) c g h z x y = absurd (y refl)
+third (Err (fault.Step f)) c g h z x y = absurd h
+third (Err (fault.Ask WrongCell)) c g h z x y = absurd (omega arith)
+third (Err (fault.Ask MoreThanGrants)) c g h z x y = absurd (omega arith)
+third (Err (fault.Ask TooManyRights)) c g h z x y = absurd (omega arith)
 
 unreached : Reaches four_rules four_places (grant 3 2 4) → ⊥
 unreached r = both_ways false refl (closed-reached four_rules four_places four_closing (grant 3 2 4) refl four_closes refl r)
 
-leaking : Tells (grant 3 3 4) (λ a. (m : ℕ) × (a ≡ Told (Leaks m)))
+leaking : Tells (grant 3 3 4) (λ a. (m : ℕ) × (a ≡ Ok (Some (Leaks m))))
 leaking c a closes h =
     let g = grant 3 3 4 in
     let z = not_refused g refl c a closes h in

@@ -1,5 +1,5 @@
 -- What a question to a closed lot is answered, and what is reached from the standing that was closed.
-use Rattle.std.proofs.Common.{◌≡◌, ℕ, Bool, true, false, cond, ◌⊎◌, ◌↔◌, [], sym, refl, ap, ◌∙◌, inl, inr, arith}
+use Rattle.std.proofs.Common.{◌≡◌, ℕ, Bool, true, false, cond, ◌⊎◌, ◌↔◌, [], sym, refl, ap, ◌∙◌, inl, inr, arith, Ok, Err, None, Some}
 use Rattle.std.proofs.lemmas.Bool.{both_ways, cond-true}
 use Rattle.std.proofs.lemmas.Bool.Decides.{nat_tests}
 use Rattle.matrix.specs.Standing.{Standing}
@@ -11,10 +11,9 @@ use Rattle.closing.specs.Closes.{Closing, Closes}
 use Rattle.closing.proofs.Verdicts.{plan_reaches, closed-reached, short-many, done_few}
 use Rattle.closing.proofs.Replaying.{replays}
 use Rattle.lot.specs.Questions.{ask_number, valid, judged_question, Says}
-use Rattle.lot.specs.Histories.{refusal_of, Answered}
+use Rattle.lot.specs.Histories.{Answer, refusal_of, Answered}
 use Rattle.lot.specs.Laws.{Leads}
-use Rattle.lot.specs.declared.calls.Answer.{Answer}
-use Rattle.lot.specs.declared.calls.Answer.TheVariants.{Done, Told, StepRefused, AskRefused}
+use Rattle.lot.specs.declared.calls.CallFault.TheVariants as fault
 use Rattle.lot.specs.declared.calls.Verdict.{Verdict}
 use Rattle.lot.specs.declared.calls.Verdict.TheVariants.{Held, Leaks, Safe}
 use Rattle.lot.specs.declared.faults.AskFault.{AskFault}
@@ -44,26 +43,26 @@ judged_valid σ s short g e v = cond-true (valid σ s g) _ 13 v ∙ cond-true (o
 
 -- an answer's refusal is the question's number
 pub answer-number : (σ : Rules) (s : Standing) (c : Closing) (g : Grant) (a : Answer) → Answered σ s c g a → refusal_of a ≡ judged_question σ s c.short g
-answer-number σ s c g Done h = absurd h
-answer-number σ s c g (Told v) h = sym h.passed
-answer-number σ s c g (StepRefused f) h = absurd h
-answer-number σ s c g (AskRefused f) h = h
+answer-number σ s c g (Ok None) h = absurd h
+answer-number σ s c g (Ok (Some v)) h = sym h.passed
+answer-number σ s c g (Err (fault.Step f)) h = absurd h
+answer-number σ s c g (Err (fault.Ask f)) h = h
 
 -- the verdicts tell apart
-says-safe : (σ : Rules) (s : Standing) (c : Closing) (g : Grant) (v : Verdict) → only_grants σ ≡ true → Closes σ s c → c.short ≡ false → Says σ s c g v → (Told v ≡ Told Safe) ↔ (Reaches σ s g → ⊥)
+says-safe : (σ : Rules) (s : Standing) (c : Closing) (g : Grant) (v : Verdict) → only_grants σ ≡ true → Closes σ s c → c.short ≡ false → Says σ s c g v → (◌≡◌ {A = Answer} (Ok (Some v)) (Ok (Some Safe))) ↔ (Reaches σ s g → ⊥)
 says-safe σ s c g Held e closes whole says =
-    (λ (is : Told Held ≡ Told Safe). absurd (let z : ◌≡◌ {A = ℕ} 0 1 = cc in omega arith), λ (unmet : Reaches σ s g → ⊥). absurd (unmet (held-reached σ s g says)))
+    (λ (is : ◌≡◌ {A = Answer} (Ok (Some Held)) (Ok (Some Safe))). absurd (let z : ◌≡◌ {A = ℕ} 0 1 = cc in omega arith), λ (unmet : Reaches σ s g → ⊥). absurd (unmet (held-reached σ s g says)))
 says-safe σ s c g (Leaks m) e closes whole says =
-    (λ (is : Told (Leaks m) ≡ Told Safe). absurd (let z : ◌≡◌ {A = ℕ} 0 1 = cc in omega arith), λ (unmet : Reaches σ s g → ⊥). absurd (unmet (shown-reached σ s c g closes says.shown)))
+    (λ (is : ◌≡◌ {A = Answer} (Ok (Some (Leaks m))) (Ok (Some Safe))). absurd (let z : ◌≡◌ {A = ℕ} 0 1 = cc in omega arith), λ (unmet : Reaches σ s g → ⊥). absurd (unmet (shown-reached σ s c g closes says.shown)))
 says-safe σ s c g Safe e closes whole says =
     (λ is r. both_ways ((shown_with s c.own).held g) says (reached-shown σ s c g e closes whole r), λ unmet. refl)
 
-says-held : (σ : Rules) (s : Standing) (c : Closing) (g : Grant) (v : Verdict) → only_grants σ ≡ true → Closes σ s c → c.short ≡ false → Says σ s c g v → (Told v ≡ Told Held) ↔ (s.held g ≡ true)
+says-held : (σ : Rules) (s : Standing) (c : Closing) (g : Grant) (v : Verdict) → only_grants σ ≡ true → Closes σ s c → c.short ≡ false → Says σ s c g v → (◌≡◌ {A = Answer} (Ok (Some v)) (Ok (Some Held))) ↔ (s.held g ≡ true)
 says-held σ s c g Held e closes whole says = (λ is. says, λ h. refl)
 says-held σ s c g (Leaks m) e closes whole says =
-    (λ (is : Told (Leaks m) ≡ Told Held). absurd (let z : ◌≡◌ {A = ℕ} 0 1 = cc in omega arith), λ h. absurd (both_ways (s.held g) says.not_held h))
+    (λ (is : ◌≡◌ {A = Answer} (Ok (Some (Leaks m))) (Ok (Some Held))). absurd (let z : ◌≡◌ {A = ℕ} 0 1 = cc in omega arith), λ h. absurd (both_ways (s.held g) says.not_held h))
 says-held σ s c g Safe e closes whole says = (
-  λ (is : Told Safe ≡ Told Held). absurd (let z : ◌≡◌ {A = ℕ} 0 1 = cc in omega arith),
+  λ (is : ◌≡◌ {A = Answer} (Ok (Some Safe)) (Ok (Some Held))). absurd (let z : ◌≡◌ {A = ℕ} 0 1 = cc in omega arith),
   λ h. absurd (both_ways ((shown_with s c.own).held g) says (reached-shown σ s c g e closes whole (held-reached σ s g h))),
 )
 
@@ -73,21 +72,21 @@ some_fault MoreThanGrants e = omega arith
 some_fault TooManyRights e = omega arith
 
 pub safe_law : (σ : Rules) (s : Standing) (c : Closing) (g : Grant) (a : Answer) → only_grants σ ≡ true → Closes σ s c → Answered σ s c g a → refusal_of a ≡ 0
-    → (a ≡ Told Safe) ↔ (Reaches σ s g → ⊥)
-safe_law σ s c g Done e closes h z = absurd h
-safe_law σ s c g (Told v) e closes h z = says-safe σ s c g v e closes (passed_parts σ s c.short g h.passed).2 h.says
-safe_law σ s c g (StepRefused f) e closes h z = absurd h
-safe_law σ s c g (AskRefused f) e closes h z = absurd (some_fault f z)
+    → (a ≡ Ok (Some Safe)) ↔ (Reaches σ s g → ⊥)
+safe_law σ s c g (Ok None) e closes h z = absurd h
+safe_law σ s c g (Ok (Some v)) e closes h z = says-safe σ s c g v e closes (passed_parts σ s c.short g h.passed).2 h.says
+safe_law σ s c g (Err (fault.Step f)) e closes h z = absurd h
+safe_law σ s c g (Err (fault.Ask f)) e closes h z = absurd (some_fault f z)
 
 pub held_law : (σ : Rules) (s : Standing) (c : Closing) (g : Grant) (a : Answer) → only_grants σ ≡ true → Closes σ s c → Answered σ s c g a → refusal_of a ≡ 0
-    → (a ≡ Told Held) ↔ (s.held g ≡ true)
-held_law σ s c g Done e closes h z = absurd h
-held_law σ s c g (Told v) e closes h z = says-held σ s c g v e closes (passed_parts σ s c.short g h.passed).2 h.says
-held_law σ s c g (StepRefused f) e closes h z = absurd h
-held_law σ s c g (AskRefused f) e closes h z = absurd (some_fault f z)
+    → (a ≡ Ok (Some Held)) ↔ (s.held g ≡ true)
+held_law σ s c g (Ok None) e closes h z = absurd h
+held_law σ s c g (Ok (Some v)) e closes h z = says-held σ s c g v e closes (passed_parts σ s c.short g h.passed).2 h.says
+held_law σ s c g (Err (fault.Step f)) e closes h z = absurd h
+held_law σ s c g (Err (fault.Ask f)) e closes h z = absurd (some_fault f z)
 
 -- a leak's steps are accepted and bring the right
-pub leaks_law : (σ : Rules) (s : Standing) (c : Closing) (g : Grant) (m : ℕ) → Closes σ s c → Answered σ s c g (Told (Leaks m)) → Leads σ s c g m
+pub leaks_law : (σ : Rules) (s : Standing) (c : Closing) (g : Grant) (m : ℕ) → Closes σ s c → Answered σ s c g (Ok (Some (Leaks m))) → Leads σ s c g m
 leaks_law σ s c g m closes h = record {
   few = h.says.few;
   Accepted = λ n is fits. replays σ s c.plan m n closes.plans is fits;

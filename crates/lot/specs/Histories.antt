@@ -1,5 +1,6 @@
 -- Runs of a lot: its states, what is defined for each call in each state, and the history of a list of calls.
-use Rattle.std.specs.Prelude.{◌≡◌, ℕ, Bool, true, false, List, [], ◌∷◌, Ok, Err}
+use Rattle.std.specs.Prelude.{◌≡◌, ℕ, Bool, true, false, List, [], ◌∷◌, Ok, Err, Result, None, Some, Option}
+use Rattle.refusals.specs.Refusals.{refusal_by}
 use Rattle.matrix.specs.Standing.{Standing, Meaning}
 use Rattle.matrix.specs.declared.grants.Grant.{Grant}
 use Rattle.scheme.specs.Rules.{Rules}
@@ -9,17 +10,23 @@ use Rattle.step.specs.Permitted.{StepRules}
 use Rattle.step.specs.Lists.{step_of}
 use Rattle.closing.specs.Closes.{Closing}
 use Rattle.lot.specs.Questions.{ask_number, Asked, Ends}
-use Rattle.lot.specs.declared.calls.Answer.{Answer}
-use Rattle.lot.specs.declared.calls.Answer.TheVariants.{Done, Told, StepRefused, AskRefused}
+use Rattle.lot.specs.declared.calls.Verdict.{Verdict}
+use Rattle.lot.specs.declared.calls.CallFault.{CallFault}
+use Rattle.lot.specs.declared.calls.CallFault.TheVariants as fault
 use Rattle.lot.specs.declared.calls.Call.{Call}
 use Rattle.lot.specs.declared.calls.Call.TheVariants.{Step, Close, Ask, Reopen}
 
+-- what a call is answered: a question's verdict, none for a call that is done; or why it is refused
+abbrev pub Answer : Type 0
+Answer = Result (Option Verdict) CallFault
+
+abbrev pub call_number : CallFault → ℕ
+call_number (fault.Step f) = number_of f
+call_number (fault.Ask f) = ask_number f
+
 -- the number of an answer's refusal, 0 where there is none
 abbrev pub refusal_of : Answer → ℕ
-refusal_of Done = 0
-refusal_of (Told v) = 0
-refusal_of (StepRefused f) = number_of f
-refusal_of (AskRefused f) = ask_number f
+refusal_of a = refusal_by call_number a
 
 -- open, or closed: with the standing that was closed, and its closing
 pub data Phase : Type 0 where
@@ -32,22 +39,22 @@ pub record State : Type 0 where
 
 -- a step on an open lot's register
 abbrev pub Stepped : Rules → Meaning → StepRules → Answer → Meaning → Type 0
-Stepped σ m t Done n = (judged_step σ m t.command t.places ≡ 0) × RanStep σ t.command t.places m n
-Stepped σ m t (Told v) n = ⊥
-Stepped σ m t (StepRefused f) n = (number_of f ≡ judged_step σ m t.command t.places) × (n ≡ m)
-Stepped σ m t (AskRefused f) n = ⊥
+Stepped σ m t (Ok None) n = (judged_step σ m t.command t.places ≡ 0) × RanStep σ t.command t.places m n
+Stepped σ m t (Ok (Some v)) n = ⊥
+Stepped σ m t (Err (fault.Step f)) n = (number_of f ≡ judged_step σ m t.command t.places) × (n ≡ m)
+Stepped σ m t (Err (fault.Ask f)) n = ⊥
 
 -- a question's answer
 abbrev pub Answered : Rules → Standing → Closing → Grant → Answer → Type 0
-Answered σ s c g Done = ⊥
-Answered σ s c g (Told v) = Asked σ s c g (Ok v)
-Answered σ s c g (StepRefused f) = ⊥
-Answered σ s c g (AskRefused f) = Asked σ s c g (Err f)
+Answered σ s c g (Ok None) = ⊥
+Answered σ s c g (Ok (Some v)) = Asked σ s c g (Ok v)
+Answered σ s c g (Err (fault.Step f)) = ⊥
+Answered σ s c g (Err (fault.Ask f)) = Asked σ s c g (Err f)
 
 -- a closing leaves the register, and ends with what it should
 pub record ClosedAs (σ : Rules) (m : Meaning) (a : Answer) (end : State) : Type 0 where
   pub closing : Closing
-  pub answer : a ≡ Done
+  pub answer : a ≡ Ok None
   pub after : end ≡ record { register = m; phase = closed m.standing closing }
   pub ends : Ends σ m.standing closing
 
@@ -62,7 +69,7 @@ abbrev pub ClosedCall : Rules → Meaning → Standing → Closing → Call → 
 ClosedCall σ m s c (Step t) a after = ⊥
 ClosedCall σ m s c Close a after = ⊥
 ClosedCall σ m s c (Ask g) a after = Answered σ m.standing c g a × (after ≡ record { register = m; phase = closed s c })
-ClosedCall σ m s c Reopen a after = (a ≡ Done) × (after ≡ record { register = m; phase = opened })
+ClosedCall σ m s c Reopen a after = (a ≡ Ok None) × (after ≡ record { register = m; phase = opened })
 
 abbrev pub Called : Rules → Meaning → Phase → Call → Answer → State → Type 0
 Called σ m opened call a after = OpenedCall σ m call a after

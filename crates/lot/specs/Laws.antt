@@ -1,5 +1,5 @@
 -- The law of runs: what holds of every question in a history, for schemes that only grant.
-use Rattle.std.specs.Prelude.{◌≡◌, ℕ, ◌≤◌, true, false, ◌⊎◌, ◌↔◌, List, [], ◌∷◌, length, take}
+use Rattle.std.specs.Prelude.{◌≡◌, ℕ, ◌≤◌, true, false, ◌⊎◌, ◌↔◌, List, [], ◌∷◌, length, take, Ok, Some}
 use Rattle.matrix.specs.Standing.{Standing, Meaning}
 use Rattle.matrix.specs.declared.grants.Grant.{Grant}
 use Rattle.scheme.specs.Rules.{Rules, only_grants}
@@ -9,10 +9,8 @@ use Rattle.closing.specs.Plans.{steps_of, added, planned}
 use Rattle.closing.specs.Closes.{Closing}
 use Rattle.closing.specs.Replays.{AcceptsAll}
 use Rattle.lot.specs.Questions.{valid}
-use Rattle.lot.specs.Histories.{refusal_of, Phase, State, Entry}
+use Rattle.lot.specs.Histories.{Answer, refusal_of, Phase, State, Entry}
 use Rattle.lot.specs.Histories.Phase.{opened, closed}
-use Rattle.lot.specs.declared.calls.Answer.{Answer}
-use Rattle.lot.specs.declared.calls.Answer.TheVariants.{Told}
 use Rattle.lot.specs.declared.calls.Call.{Call}
 use Rattle.lot.specs.declared.calls.Call.TheVariants.{Step, Close, Ask, Reopen}
 use Rattle.lot.specs.declared.calls.Verdict.TheVariants.{Held, Leaks, Safe}
@@ -40,11 +38,11 @@ pub record Leads (σ : Rules) (s : Standing) (c : Closing) (g : Grant) (m : ℕ)
 -- a question on g to a lot that was closed when its register showed s, its answer, and what came later
 pub record QuestionLaw (σ : Rules) (s : Standing) (c : Closing) (g : Grant) (a : Answer) (later : List Entry) : Type 0 where
   -- answered "safe" exactly when no permitted list from s ends with the right held, "held" exactly when s holds it
-  pub safe : refusal_of a ≡ 0 → (a ≡ Told Safe) ↔ (Reaches σ s g → ⊥)
-  pub held : refusal_of a ≡ 0 → (a ≡ Told Held) ↔ (s.held g ≡ true)
+  pub safe : refusal_of a ≡ 0 → (a ≡ Ok (Some Safe)) ↔ (Reaches σ s g → ⊥)
+  pub held : refusal_of a ≡ 0 → (a ≡ Ok (Some Held)) ↔ (s.held g ≡ true)
   -- after "safe" the right never comes
-  pub never : a ≡ Told Safe → AbsentAfter g later
-  pub leaks : (m : ℕ) → a ≡ Told (Leaks m) → Leads σ s c g m
+  pub never : a ≡ Ok (Some Safe) → AbsentAfter g later
+  pub leaks : (m : ℕ) → a ≡ Ok (Some (Leaks m)) → Leads σ s c g m
   -- a valid question is refused with 15 exactly when more than 512 rights are addable, and for nothing else
   pub size : valid σ s g ≡ true → (refusal_of a ≡ 15) ↔ MoreThan 512 (Addable σ s)
   pub only : valid σ s g ≡ true → (refusal_of a ≡ 0) ⊎ (refusal_of a ≡ 15)

@@ -2,3 +2,4 @@ pub mod Questions
 pub mod Histories
 pub mod Laws
 pub mod Marked
+pub mod Words

@@ -1,5 +1,5 @@
 -- The marked cases: one lot of four places, and what is defined for some questions to it and some steps on it.
-use Rattle.std.specs.Prelude.{◌≡◌, ℕ, ◌≤◌, List, [], ◌∷◌}
+use Rattle.std.specs.Prelude.{◌≡◌, ℕ, ◌≤◌, List, [], ◌∷◌, Ok, Some}
 use Rattle.matrix.specs.Count.{grant}
 use Rattle.matrix.specs.Listed.{listed}
 use Rattle.matrix.specs.Standing.{Standing, Meaning}
@@ -12,9 +12,7 @@ use Rattle.scheme.specs.declared.lines.TypeKind.TheVariants.{Subject, Object}
 use Rattle.step.specs.Judged.{judged_step}
 use Rattle.closing.specs.Closes.{Closing}
 use Rattle.lot.specs.Questions.{Ends}
-use Rattle.lot.specs.Histories.{refusal_of, Answered}
-use Rattle.lot.specs.declared.calls.Answer.{Answer}
-use Rattle.lot.specs.declared.calls.Answer.TheVariants.{Told}
+use Rattle.lot.specs.Histories.{Answer, refusal_of, Answered}
 use Rattle.lot.specs.declared.calls.Verdict.TheVariants.{Held, Leaks, Safe}
 
 abbrev pub cell : ℕ → ℕ → ℕ → Cell
@@ -45,9 +43,9 @@ Judges command places number = (m : Meaning) → m.standing ≡ four_places → 
 pub record MarkedCases : Type 0 where
   -- the lot can be closed
   pub some : (c : Closing) × Ends four_rules four_places c
-  pub leaks : Tells (grant 3 3 4) (λ a. (m : ℕ) × (a ≡ Told (Leaks m)))
-  pub safe : Tells (grant 3 2 4) (λ a. a ≡ Told Safe)
-  pub held : Tells (grant 1 1 4) (λ a. a ≡ Told Held)
+  pub leaks : Tells (grant 3 3 4) (λ a. (m : ℕ) × (a ≡ Ok (Some (Leaks m))))
+  pub safe : Tells (grant 3 2 4) (λ a. a ≡ Ok (Some Safe))
+  pub held : Tells (grant 1 1 4) (λ a. a ≡ Ok (Some Held))
   pub no_right : Tells (grant 33 1 4) (λ a. refusal_of a ≡ 13)
   pub no_subject : Tells (grant 1 4 1) (λ a. refusal_of a ≡ 13)
   pub false_condition : Judges 2 (2 ∷ 3 ∷ 4 ∷ []) 11

@@ -4,9 +4,9 @@ use Rattle.matrix.specs.Grants.{in_range}
 use Rattle.matrix.specs.Standing.{Standing}
 use Rattle.matrix.specs.declared.grants.Grant.{Grant}
 use Rattle.scheme.specs.Each.{numbered}
+use Rattle.scheme.specs.Lawful.{some_subject}
 use Rattle.scheme.specs.Rules.{Rules, only_grants}
 use Rattle.scheme.specs.declared.lines.TypeKind.{TypeKind}
-use Rattle.scheme.specs.declared.lines.TypeKind.TheVariants.{Subject, Object}
 use Rattle.trial.specs.Means.{shown_with}
 use Rattle.closing.specs.Plans.{planned}
 use Rattle.closing.specs.Closes.{Closing, Closes}
@@ -21,14 +21,9 @@ ask_number MoreThanGrants = 14
 ask_number TooManyRights = 15
 
 -- a place that is filled with a subject type of the scheme
-abbrev pub subject_kind : Option TypeKind → Bool
-subject_kind None = false
-subject_kind (Some Subject) = true
-subject_kind (Some Object) = false
-
 abbrev pub subject_type : List TypeKind → Option ℕ → Bool
 subject_type types None = false
-subject_type types (Some t) = subject_kind (numbered types t)
+subject_type types (Some t) = some_subject (numbered types t)
 
 -- right and places are in range, both places filled, and the row a subject
 abbrev pub valid : Rules → Standing → Grant → Bool

@@ -4,5 +4,5 @@
 mod calls;
 mod faults;
 
-pub use calls::{Answer, Call, Verdict};
+pub use calls::{Answer, Call, CallFault, Verdict};
 pub use faults::AskFault;

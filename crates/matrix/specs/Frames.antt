@@ -1,6 +1,6 @@
--- What an enter leaves alone though a matrix's meaning does not show it, as the matrix below a trial.
+-- What the calls of a matrix leave alone though its meaning does not show it, as the matrix below a trial.
 
--- a relation between a matrix before and after, which many enters keep since one does
+-- a relation between a matrix before and after, which many calls keep since one does
 pub record Frame (X : Type 0) : Type 1 where
   pub keeps : X → X → Type 0
   pub begins : (x : X) → keeps x x

@@ -9,3 +9,4 @@ pub mod Tables
 pub mod Listed
 pub mod Stored
 pub mod Frames
+pub mod Words

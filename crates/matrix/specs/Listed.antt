@@ -1,8 +1,8 @@
 -- The rights that a list of grants holds.
-use Rattle.std.specs.Prelude.{Bool, List, is_some}
-use Rattle.records.specs.First.{first}
+use Rattle.std.specs.Prelude.{Bool, List}
+use Rattle.std.specs.List.{list_any}
 use Rattle.matrix.specs.Grants.{same_grant}
 use Rattle.matrix.specs.declared.grants.Grant.{Grant}
 
 abbrev pub listed : List Grant → Grant → Bool
-listed gs g = is_some (first (same_grant g) gs)
+listed gs g = list_any (same_grant g) gs

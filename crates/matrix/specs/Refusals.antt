@@ -1,5 +1,6 @@
 -- The numbers of the refusals, and when each call of a matrix is refused with which.
-use Rattle.std.specs.Prelude.{ℕ, cond, ◌&&◌, ◌||◌, is_some, Ok, Err, Option, Result, ◌==◌, nat_lt}
+use Rattle.std.specs.Prelude.{ℕ, cond, ◌&&◌, ◌||◌, is_some, Option, Result, ◌==◌, nat_lt}
+use Rattle.refusals.specs.Refusals.{refusal_by}
 use Rattle.matrix.specs.Ranges.{within}
 use Rattle.matrix.specs.Grants.{in_range}
 use Rattle.matrix.specs.Standing.{Meaning}
@@ -21,21 +22,10 @@ memory_number LongList = 8
 
 -- the number of a call's refusal, 0 where it was accepted
 abbrev pub refusal : {X : Type 0} → Result X MatrixFault → ℕ
-refusal (Ok x) = 0
-refusal (Err f) = number_of f
+refusal r = refusal_by number_of r
 
 abbrev pub memory_refusal : {X : Type 0} → Result X MemoryFault → ℕ
-memory_refusal (Ok x) = 0
-memory_refusal (Err f) = memory_number f
-
--- what is said of an accepted call, and of a refused one
-abbrev pub Accepted : {X E : Type 0} → Result X E → Type 0 → Type 0
-Accepted (Ok x) P = P
-Accepted (Err f) P = Unit {0}
-
-abbrev pub Refused : {X E : Type 0} → Result X E → Type 0 → Type 0
-Refused (Ok x) P = Unit {0}
-Refused (Err f) P = P
+memory_refusal r = refusal_by memory_number r
 
 -- a grant in a matrix of n places, its row and its column having these types: range goes before filling
 abbrev pub cell_judged : ℕ → Option ℕ → Option ℕ → Grant → ℕ

@@ -1,32 +1,45 @@
 ghost use Rattle.std.specs.Prelude.{◌≡◌};
-ghost use Rattle.matrix.specs.Grants.{same_grant};
+ghost use Rattle.matrix.specs.Grants.{same_grant, names};
 ghost use Rattle.matrix.specs.Ranges.{within};
 ghost use Rattle.matrix.specs.Refusals.{refusal, cell_judged};
-ghost use Rattle.std.proofs.Common.{rules};
 
 use crate::MatrixFault;
-use records::Same;
+use std::fmt;
 
-// A right in a cell: the row's place has it in the column's place.
-#[derive(Clone, Copy)]
+// A right in a cell: the row's place has it in the column's place. Two are equal if all three numbers agree. The cells of a scheme have the
+// same fields but name parameters, and those of a line may be either: three types, so that none is taken for another.
+#[derive(Clone, Copy, PartialEq, Eq, Debug)]
 pub struct Grant {
     pub right: u16,
     pub row: u16,
     pub column: u16,
 }
 
-// Two grants are the same if all three numbers agree.
-impl Same for Grant {
-    ghost alike = { same_grant };
+impl Grant {
+    // Equality, in the words of contracts.
+    pub fn same(&self, other: &Grant) -> bool
+        ensures { result ≡ same_grant self.now other.now }
+    {
+        self == other
+    }
 
-    ghost reflexive = { Prim.search rules };
+    // Whether a place is the row or the column.
+    pub fn names(&self, place: u16) -> bool
+        ensures { result ≡ names place self.now }
+    {
+        self.row == place || self.column == place
+    }
+}
 
-    ghost symmetric = { Prim.search rules };
+impl fmt::Display for Grant {
+    ghost use Rattle.std.specs.Prelude.{Some};
+    ghost use Rattle.matrix.specs.Words.{grant_words};
 
-    ghost transitive = { Prim.search rules };
+    ghost output = { λ g. Some (grant_words g) };
 
-    fn same(&self, other: &Grant) -> bool {
-        self.right == other.right && self.row == other.row && self.column == other.column
+    fn fmt<W: fmt::Write>(&self, f: &mut fmt::Formatter<W>) -> fmt::Result {
+        let Grant { right, row, column } = *self;
+        write!(f, "right {right} of place {row} in place {column}")
     }
 }
 
@@ -34,7 +47,7 @@ impl Same for Grant {
 pub fn is_within(number: u16, largest: u16) -> bool
     ensures { result ≡ within number largest }
 {
-    1 <= number && number <= largest
+    (1..=largest).contains(&number)
 }
 
 // Whether a grant may stand in a matrix with so many places, its row and its column having these types:

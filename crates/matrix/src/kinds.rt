@@ -1,13 +1,14 @@
 ghost use Rattle.std.specs.Prelude.{◌≡◌};
 ghost use Rattle.matrix.specs.Standing.{Meaning, Lawful};
-ghost use Rattle.matrix.specs.Refusals.{refusal, Accepted, Refused, enter_refusal, delete_refusal, create_refusal, destroy_refusal};
+ghost use Rattle.refusals.specs.Refusals.{Accepted, Refused};
+ghost use Rattle.matrix.specs.Refusals.{refusal, enter_refusal, delete_refusal, create_refusal, destroy_refusal};
 ghost use Rattle.matrix.specs.Calls.{Entered, Deleted, Created, Destroyed};
 ghost use Rattle.matrix.specs.Frames.{Frame, no_more};
 
 use crate::{Grant, MatrixFault};
 
-// Who holds which right in what, and the room for new rights: `means` says it, and `lawful` that it keeps its bounds. `frame` says what an
-// enter leaves alone though the meaning does not show it; a kind that does not give it promises no more than the meaning shows.
+// Who holds which right in what, and the room for new rights: `means` says it, and `lawful` that it keeps its bounds. `frame` says what its
+// calls leave alone though the meaning does not show it; a kind that does not give it promises no more than the meaning shows.
 pub trait Matrix {
     ghost means: { Self → Meaning };
 
@@ -45,17 +46,20 @@ pub trait Register: Matrix {
     fn delete(&mut self, grant: Grant) -> Result<(), MatrixFault>
         ensures told { refusal result ≡ delete_refusal (Self.Matrix.means self.old) grant }
         ensures after { Accepted result (Deleted (Self.Matrix.means self.old) grant (Self.Matrix.means self.new)) }
-        ensures same { Refused result (self.new ≡ self.old) };
+        ensures same { Refused result (self.new ≡ self.old) }
+        ensures kept { Self.Matrix.frame.keeps self.old self.new };
 
     // Fills an empty place with a type: 5 if the place or the type is out of range, 6 if the place is filled.
     fn create(&mut self, place: u16, kind: u16) -> Result<(), MatrixFault>
         ensures told { refusal result ≡ create_refusal (Self.Matrix.means self.old) place kind }
         ensures after { Accepted result (Created (Self.Matrix.means self.old) place kind (Self.Matrix.means self.new)) }
-        ensures same { Refused result (self.new ≡ self.old) };
+        ensures same { Refused result (self.new ≡ self.old) }
+        ensures kept { Self.Matrix.frame.keeps self.old self.new };
 
     // Empties a place, with every right that names it as row or as column: 5 if it is out of range, 6 if it is empty.
     fn destroy(&mut self, place: u16) -> Result<(), MatrixFault>
         ensures told { refusal result ≡ destroy_refusal (Self.Matrix.means self.old) place }
         ensures after { Accepted result (Destroyed (Self.Matrix.means self.old) place (Self.Matrix.means self.new)) }
-        ensures same { Refused result (self.new ≡ self.old) };
+        ensures same { Refused result (self.new ≡ self.old) }
+        ensures kept { Self.Matrix.frame.keeps self.old self.new };
 }

@@ -7,7 +7,7 @@ mod grants;
 mod kinds;
 mod tables;
 
-pub use enters::{FirstRefusal, enter_all};
+pub use enters::enter_all;
 pub use faults::{MatrixFault, MemoryFault};
 pub use grants::{Grant, is_within, judge_cell};
 pub use kinds::{Matrix, Register};

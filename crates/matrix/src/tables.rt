@@ -7,6 +7,7 @@ use crate::{Grant, MatrixFault, is_within, judge_cell};
 // How many places there are, 128 at most, and the type of each; a number outside 1 to 16 marks an empty place.
 #[derive(Clone, Copy)]
 pub struct PlaceTable {
+    // numbers and not options, and n beside them: a rule of the project gives the table as one plain array of 128 numbers, of which any may be 0
     types: [u16; 128],
     n: u16,
 }

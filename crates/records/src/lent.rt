@@ -1,19 +1,19 @@
-ghost use Rattle.std.specs.Prelude.{◌≡◌, ◌-◌, [], length, nat_lt};
+ghost use Rattle.std.specs.Prelude.{◌≡◌, ◌-◌, [], length, nat_lt, position};
 ghost use Rattle.std.specs.List.{slice_get};
-ghost use Rattle.records.specs.First.{first};
 ghost use Rattle.records.specs.Bounded.{addition, with_added, with_out, UnlessAdded, Unless};
 ghost use Rattle.records.specs.Lent.{items, capacity};
 
-use crate::{Addition, Same};
+use crate::Full;
 
-// The bounded list in memory that was handed over; what lies beyond the records in use is free.
+// The bounded list in memory that was handed over, as a rule of the project wants it; what lies beyond the records in use is free. It shares the
+// functions of this crate with `ArrayList` and no trait: one that lends the slots would have to say in clauses what each function says once.
 #[derive(Drop)]
 pub struct BoundedList<'a, T> {
     records: &'a mut [T],
     used: usize,
 }
 
-impl<'a, T: Same + Copy> BoundedList<'a, T> {
+impl<'a, T: Eq + Copy> BoundedList<'a, T> {
     // A list with no record in use, whatever the memory holds, which stays as it is.
     pub fn new(records: &'a mut [T]) -> Self
         ensures empty { items result ≡ [] }
@@ -43,16 +43,16 @@ impl<'a, T: Same + Copy> BoundedList<'a, T> {
         crate::at(self.records, self.used, position)
     }
 
-    // The first position in use whose record is the same.
+    // The first position in use whose record equals the wanted one.
     pub fn find(&self, wanted: &T) -> Option<usize>
-        ensures { result ≡ first (T.alike wanted.now) (items self.now) }
+        ensures { result ≡ position (T.eq wanted.now) (items self.now) }
     {
         crate::find(self.records, self.used, wanted)
     }
 
-    // Adds a record at the end, unless the same one is there or the list is full; sameness goes first.
-    pub fn add(&mut self, item: T) -> Addition
-        ensures told { result ≡ addition (T.alike item) (capacity self.old) (items self.old) }
+    // Adds a record at the end, unless an equal one is there or the list is full; equality goes first.
+    pub fn add(&mut self, item: T) -> Result<bool, Full>
+        ensures told { result ≡ addition (T.eq item) (capacity self.old) (items self.old) }
         ensures after { items self.new ≡ with_added result item (items self.old) }
         ensures size { capacity self.new ≡ capacity self.old }
         ensures same { UnlessAdded result (self.new ≡ self.old) }

@@ -1,65 +1,28 @@
-// One bounded list for every kind of record that can tell sameness: a slice of records and the number in use.
+// One bounded list for every kind of record that can tell equality: a slice of records and the number in use, in lent memory or in an array.
 #![tactic(auto)]
 
-ghost use Rattle.std.specs.Prelude.{◌≡◌, ◌≤◌, Bool, true, length, take, nat_lt};
-ghost use Rattle.std.specs.List.{slice_get};
-ghost use Rattle.records.specs.First.{first};
+ghost use Rattle.std.specs.Prelude.{◌≡◌, ◌≤◌, length, nat_lt, position, take};
+ghost use Rattle.std.specs.List.{list_any, slice_get};
 ghost use Rattle.records.specs.Bounded.{addition, with_added, with_out, UnlessAdded, Unless};
 
+mod arrays;
 mod lent;
 
+pub use arrays::ArrayList;
 pub use lent::BoundedList;
 
-// A kind of record that can tell whether two records are the same; `alike` is an equivalence.
-pub trait Same {
-    ghost alike: { Self → Self → Bool };
+// Why a record does not join a list: there is memory for no more.
+#[derive(Clone, Copy, PartialEq, Eq, Debug)]
+pub struct Full;
 
-    fn same(&self, other: &Self) -> bool
-        ensures { result ≡ alike self.now other.now };
-
-    ghost reflexive: { (x : Self) → alike x x ≡ true };
-
-    ghost symmetric: { (x y : Self) → alike x y ≡ true → alike y x ≡ true };
-
-    ghost transitive: { (x y z : Self) → alike x y ≡ true → alike y z ≡ true → alike x z ≡ true };
-}
-
-// What became of a record that was to be added.
-#[derive(Clone, Copy)]
-pub enum Addition {
-    Added,
-    AlreadyThere,
-    Full,
-}
-
-fn first_same<T: Same>(records: &[T], wanted: &T) -> Option<usize>
-    ensures { result ≡ first (T.alike wanted.now) records.now }
-{
-    for (i, x) in records.iter().enumerate() {
-        if wanted.same(x) {
-            return Some(i);
-        }
-    }
-    None
-}
-
-// The first position in use, from 0, whose record is the same as the wanted one. It looks no further than the match.
-pub fn find<T: Same>(records: &[T], used: usize, wanted: &T) -> Option<usize>
-    ensures { result ≡ first (T.alike wanted.now) (take used records.now) }
-{
-    let n = len(records, used);
-    first_same(&records[0..n], wanted)
-}
+// The functions below take a slice and the number in use, side by side: one list over any slice is a form that the project names, and both
+// holders hand on to them.
 
 // The records in use, in order: as many as the number says, or all.
 pub fn in_use<T>(records: &[T], used: usize) -> &[T]
     ensures { result.now ≡ take used records.now }
 {
-    if used < records.len() {
-        &records[0..used]
-    } else {
-        records
-    }
+    records.get(..used).unwrap_or(records)
 }
 
 // How many records are in use: as many as the number says, or all.
@@ -74,29 +37,37 @@ pub fn len<T>(records: &[T], used: usize) -> usize
 pub fn at<T: Copy>(records: &[T], used: usize, position: usize) -> Option<T>
     ensures { result ≡ slice_get (take used records.now) position }
 {
-    if position < len(records, used) {
-        Some(records[position])
-    } else {
-        None
-    }
+    in_use(records, used).get(position).copied()
 }
 
-// Adds a record at the end, unless the same one is there or the list is full; sameness goes first.
-pub fn add<T: Same + Copy>(records: &mut [T], used: &mut usize, item: T) -> Addition
-    ensures told { result ≡ addition (T.alike item) (length records.old) (take used.old records.old) }
+// The first position in use, from 0, whose record equals the wanted one. It looks no further than the match.
+pub fn find<T: Eq>(records: &[T], used: usize, wanted: &T) -> Option<usize>
+    ensures { result ≡ position (T.eq wanted.now) (take used records.now) }
+{
+    in_use(records, used).iter().position(|x| wanted == x)
+}
+
+fn has<T: Eq>(records: &[T], wanted: &T) -> bool
+    ensures { result ≡ list_any (T.eq wanted.now) records.now }
+{
+    records.iter().any(|x| wanted == x)
+}
+
+// Adds a record at the end, unless an equal one is there or the list is full; equality goes first. It tells whether the record was added.
+pub fn add<T: Eq + Copy>(records: &mut [T], used: &mut usize, item: T) -> Result<bool, Full>
+    ensures told { result ≡ addition (T.eq item) (length records.old) (take used.old records.old) }
     ensures after { take used.new records.new ≡ with_added result item (take used.old records.old) }
     ensures same { UnlessAdded result ((records.new ≡ records.old) × (used.new ≡ used.old)) }
 {
-    let end = *used;
-    if find(records, end, &item).is_some() {
-        return Addition::AlreadyThere;
+    if has(in_use(records, *used), &item) {
+        return Ok(false);
     }
-    if end >= records.len() {
-        return Addition::Full;
+    if *used >= records.len() {
+        return Err(Full);
     }
-    records[end] = item;
-    *used = end + 1;
-    Addition::Added
+    records[*used] = item;
+    *used += 1;
+    Ok(true)
 }
 
 // Takes the record at a position out, if one is in use there, the others staying in order; tells whether one was.
@@ -109,10 +80,7 @@ pub fn take_out<T: Copy>(records: &mut [T], used: &mut usize, position: usize) -
     if position >= n {
         return false;
     }
-    let last = n - 1;
-    for i in position..last {
-        records[i] = records[i + 1];
-    }
-    *used = last;
+    records.copy_within(position + 1..n, position);
+    *used = n - 1;
     true
 }

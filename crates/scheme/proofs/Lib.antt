@@ -1,8 +1,6 @@
-pub mod Filled
-pub mod Loops
-pub mod InUse
+pub mod InPlace
 pub mod Every
 pub mod Apart
+pub mod Steps
 pub mod Sound
 pub mod Spelled
-pub mod Exact

@@ -1,6 +1,8 @@
 -- What a lawful scheme is.
 use Rattle.std.specs.Prelude.{◌≡◌, ℕ, Bool, true, false, not, ◌&&◌, ◌||◌, List, [], length, Some, None, Option, nat_le}
-use Rattle.scheme.specs.Each.{from_to, every, each_after, numbered, then_option}
+use Rattle.std.specs.List.{list_all}
+use Rattle.std.specs.Option.{option_and_then}
+use Rattle.scheme.specs.Each.{from_to, each_after, numbered}
 use Rattle.scheme.specs.Lines.{test_named, named, created, destroyed}
 use Rattle.scheme.specs.Rules.{Rules, CommandRules}
 use Rattle.scheme.specs.declared.lines.Cell.{Cell}
@@ -28,7 +30,7 @@ some_subject (Some k) = subject_kind k
 
 -- there is a parameter with this number, and its formal type is a subject type
 abbrev pub is_subject : List TypeKind → List ℕ → ℕ → Bool
-is_subject types formals p = some_subject (then_option (numbered formals p) (numbered types))
+is_subject types formals p = some_subject (option_and_then (numbered types) (numbered formals p))
 
 -- a right of 1 to 32, parameters of the command, and a row of a subject type
 abbrev pub lawful_cell : List TypeKind → List ℕ → Cell → Bool
@@ -68,10 +70,10 @@ lawful_operation types formals tests before o = in_range types formals o && (cre
 -- each line of a command is lawful where it stands, and there are not too many
 abbrev pub lawful_lines : List TypeKind → CommandRules → Bool
 lawful_lines types c =
-    from_to 1 4 (length c.formals) && (every (is_declared types) c.formals
-    && (nat_le (length c.tests) 6 && (every (lawful_cell types c.formals) c.tests
+    from_to 1 4 (length c.formals) && (list_all (is_declared types) c.formals
+    && (nat_le (length c.tests) 6 && (list_all (lawful_cell types c.formals) c.tests
     && (nat_le (length c.operations) 6 && (each_after (lawful_operation types c.formals c.tests) [] c.operations
-    && every (destroys_older c.operations) c.operations)))))
+    && list_all (destroys_older c.operations) c.operations)))))
 
 abbrev pub has_operations : CommandRules → Bool
 has_operations c = nat_le 1 (length c.operations)
@@ -80,7 +82,7 @@ abbrev pub lawful_command : List TypeKind → CommandRules → Bool
 lawful_command types c = lawful_lines types c && has_operations c
 
 abbrev pub lawful : Rules → Bool
-lawful s = from_to 1 16 (length s.types) && (from_to 1 32 (length s.commands) && every (lawful_command s.types) s.commands)
+lawful s = from_to 1 16 (length s.types) && (from_to 1 32 (length s.commands) && list_all (lawful_command s.types) s.commands)
 
 abbrev pub LawfulScheme : Rules → Type 0
 LawfulScheme s = lawful s ≡ true

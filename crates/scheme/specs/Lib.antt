@@ -4,5 +4,5 @@ pub mod Rules
 pub mod Lawful
 pub mod Written
 pub mod Refusals
-pub mod Copied
 pub mod Spelling
+pub mod Words

@@ -1,6 +1,6 @@
 -- The lines of a command, tests and operations: which parameters a line names, creates and destroys.
-use Rattle.std.specs.Prelude.{ℕ, Bool, true, false, ◌||◌, List, ◌==◌}
-use Rattle.scheme.specs.Each.{some_of}
+use Rattle.std.specs.Prelude.{ℕ, Bool, true, false, ◌||◌, List, Some, None, Option, ◌==◌}
+use Rattle.std.specs.List.{list_any}
 use Rattle.scheme.specs.declared.lines.Cell.{Cell}
 use Rattle.scheme.specs.declared.lines.Operation.{Operation}
 use Rattle.scheme.specs.declared.lines.Operation.TheVariants.{Enter, Delete, Create, Destroy}
@@ -33,15 +33,22 @@ enters (Delete c) = false
 enters (Create p) = false
 enters (Destroy p) = false
 
+-- the cell that an enter enters, none for another operation
+abbrev pub entered_cell : Operation → Option Cell
+entered_cell (Enter c) = Some c
+entered_cell (Delete c) = None
+entered_cell (Create p) = None
+entered_cell (Destroy p) = None
+
 -- some test names a parameter; some operation names, creates or destroys it
 abbrev pub test_named : List Cell → ℕ → Bool
-test_named tests p = some_of (λ t. cell_names t p) tests
+test_named tests p = list_any (λ t. cell_names t p) tests
 
 abbrev pub named : List Operation → ℕ → Bool
-named operations p = some_of (λ o. names o p) operations
+named operations p = list_any (λ o. names o p) operations
 
 abbrev pub created : List Operation → ℕ → Bool
-created operations p = some_of (λ o. creates o p) operations
+created operations p = list_any (λ o. creates o p) operations
 
 abbrev pub destroyed : List Operation → ℕ → Bool
-destroyed operations p = some_of (λ o. destroys o p) operations
+destroyed operations p = list_any (λ o. destroys o p) operations

@@ -1,6 +1,8 @@
 -- The numbers of the refusals, and when each call of the writer is refused with which: the smaller number goes first.
-use Rattle.std.specs.Prelude.{ℕ, Bool, true, cond, not, ◌&&◌, ◌||◌, List, length, Ok, Err, Result, nat_le}
-use Rattle.scheme.specs.Each.{from_to, every}
+use Rattle.std.specs.Prelude.{ℕ, Bool, true, cond, not, ◌&&◌, ◌||◌, List, length, Result, nat_le}
+use Rattle.std.specs.List.{list_all}
+use Rattle.refusals.specs.Refusals.{refusal_by}
+use Rattle.scheme.specs.Each.{from_to}
 use Rattle.scheme.specs.Rules.{Rules, CommandRules}
 use Rattle.scheme.specs.Lawful.{is_right, is_declared, lawful_cell, in_range, creates_fresh, destroys_older, names_standing, has_operations}
 use Rattle.scheme.specs.Written.{last_of, no_commands, last_operates}
@@ -19,17 +21,7 @@ number_of Unfinished = 4
 
 -- the number of a call's refusal, 0 where it was accepted
 abbrev pub refusal : {X : Type 0} → Result X SchemeFault → ℕ
-refusal (Ok x) = 0
-refusal (Err f) = number_of f
-
--- what is said of an accepted call, and of a refused one
-abbrev pub Accepted : {X E : Type 0} → Result X E → Type 0 → Type 0
-Accepted (Ok x) P = P
-Accepted (Err f) P = Unit {0}
-
-abbrev pub Refused : {X E : Type 0} → Result X E → Type 0 → Type 0
-Refused (Ok x) P = Unit {0}
-Refused (Err f) P = P
+refusal r = refusal_by number_of r
 
 -- a 17th type
 abbrev pub judged_type : Rules → ℕ
@@ -39,7 +31,7 @@ judged_type s = cond (nat_le 16 (length s.types)) 1 0
 abbrev pub judged_command : Rules → List ℕ → ℕ
 judged_command s formals =
     cond (nat_le 32 (length s.commands) || not (from_to 1 4 (length formals))) 1
-    (cond (not (every (is_declared s.types) formals)) 2 (cond (not (last_operates s)) 4 0))
+    (cond (not (list_all (is_declared s.types) formals)) 2 (cond (not (last_operates s)) 4 0))
 
 -- a 7th test; a number out of range or a row of a pure object type; an operation before it
 abbrev pub judged_test_in : List TypeKind → CommandRules → Cell → ℕ

@@ -1,6 +1,7 @@
 -- The rules of a scheme, as lists: its types, and its commands with their formal types, tests and operations.
-use Rattle.std.specs.Prelude.{ℕ, Bool, List, map, take}
-use Rattle.scheme.specs.Each.{every}
+use Rattle.std.specs.Prelude.{ℕ, Bool, List, map}
+use Rattle.std.specs.List.{list_all}
+use Rattle.records.specs.Arrays.{elements}
 use Rattle.scheme.specs.Lines.{enters}
 use Rattle.scheme.specs.declared.lines.Cell.{Cell}
 use Rattle.scheme.specs.declared.lines.Operation.{Operation}
@@ -18,16 +19,16 @@ pub record Rules : Type 0 where
   pub types : List TypeKind
   pub commands : List CommandRules
 
--- what a command's struct stands for: of each array as many as are counted
+-- what a command's struct stands for
 abbrev pub command_of : Command → CommandRules
-command_of c = record { formals = take c.arity c.formals; tests = take c.asked c.tests; operations = take c.done c.operations }
+command_of c = record { formals = elements c.formals; tests = elements c.tests; operations = elements c.operations }
 
 abbrev pub rules_of : Table → Rules
-rules_of t = record { types = take t.declared t.types; commands = map command_of (take t.opened t.commands) }
+rules_of t = record { types = elements t.types; commands = map command_of (elements t.commands) }
 
 -- every operation is an enter
 abbrev pub only_enters : CommandRules → Bool
-only_enters c = every enters c.operations
+only_enters c = list_all enters c.operations
 
 abbrev pub only_grants : Rules → Bool
-only_grants s = every only_enters s.commands
+only_grants s = list_all only_enters s.commands

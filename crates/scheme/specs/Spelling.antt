@@ -1,5 +1,5 @@
 -- A scheme spelled out to the writer line by line, and what the writer makes of lines.
-use Rattle.std.specs.Prelude.{ℕ, cond, List, [], ◌∷◌, ◌++◌, map, Some, None, Option, ◌==◌}
+use Rattle.std.specs.Prelude.{ℕ, cond, List, [], ◌∷◌, ◌++◌, map, Some, None, Ok, Err, Option, Result, ◌==◌}
 use Rattle.scheme.specs.Rules.{Rules, CommandRules}
 use Rattle.scheme.specs.Written.{opened_with, with_type, with_command, with_test, with_operation, on_last}
 use Rattle.scheme.specs.Refusals.{judged_type, judged_command, judged_test, judged_operation}
@@ -30,6 +30,11 @@ with_line (operates o) s = on_last (with_operation o) s
 abbrev pub written_by : Rules → List Line → Option Rules
 written_by s [] = Some s
 written_by s (l ∷ ls) = cond (judged_line s l == 0) (written_by (with_line l s) ls) None
+
+-- the rules after lines that were all accepted, none where one was refused
+abbrev pub written_if : {X E : Type 0} → Result X E → Rules → Option Rules
+written_if (Ok x) s = Some s
+written_if (Err f) s = None
 
 -- the lines of a scheme in their natural order: all types, then each command with its tests and its operations
 abbrev pub command_lines : CommandRules → List Line

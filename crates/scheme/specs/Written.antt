@@ -1,6 +1,6 @@
 -- What is written of a scheme so far: what each accepted call adds to it, and what always holds of it.
 use Rattle.std.specs.Prelude.{ℕ, ◌-◌, Bool, ◌&&◌, ◌||◌, List, [], ◌∷◌, ◌++◌, length, take, ◌==◌, nat_le, slice_index_or, slice_set}
-use Rattle.scheme.specs.Each.{every}
+use Rattle.std.specs.List.{list_all}
 use Rattle.scheme.specs.Rules.{Rules, CommandRules}
 use Rattle.scheme.specs.Lawful.{lawful_lines, has_operations}
 use Rattle.scheme.specs.declared.lines.Cell.{Cell}
@@ -46,8 +46,8 @@ last_operates s = no_commands s || has_operations (last_of s.commands)
 -- each line is lawful where it stands, and only the command opened last may lack operations
 abbrev pub sound : Rules → Bool
 sound s =
-    nat_le (length s.types) 16 && (nat_le (length s.commands) 32 && (every (lawful_lines s.types) s.commands
-    && every has_operations (take (length s.commands - 1) s.commands)))
+    nat_le (length s.types) 16 && (nat_le (length s.commands) 32 && (list_all (lawful_lines s.types) s.commands
+    && list_all has_operations (take (length s.commands - 1) s.commands)))
 
 -- one subject type, and one command of one parameter that enters right 1 into its own cell
 abbrev pub smallest : Rules

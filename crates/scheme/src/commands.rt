@@ -1,78 +1,21 @@
-// A command: its formal types, its tests and its operations, in arrays with a count of what is in use.
+// A command: its formal types, its tests and its operations.
 ghost use Rattle.std.specs.Prelude.{◌≡◌, ◌<◌, ◌≤◌, length};
-ghost use Rattle.scheme.specs.Each.{numbered, every};
+ghost use Rattle.scheme.specs.Each.{numbered};
 ghost use Rattle.scheme.specs.Rules.{command_of, only_enters};
 ghost use Rattle.scheme.specs.Written.{opened_with, with_test, with_operation};
-ghost use Rattle.scheme.specs.Lines.{enters, test_named, named, created, destroyed};
+ghost use Rattle.scheme.specs.Lines.{test_named, named, created, destroyed};
 ghost use Rattle.scheme.specs.Lawful.{has_parameter, creates_fresh, destroys_older, names_standing, has_operations};
 ghost use Rattle.scheme.specs.Refusals.{keeps_order};
 
 use crate::lines::{Cell, Operation};
-use crate::parts::{front, item};
+use crate::parts::item;
+use records::ArrayList;
 
 #[derive(Clone, Copy)]
 pub struct Command {
-    formals: [u16; 4],
-    arity: u16,
-    tests: [Cell; 6],
-    asked: u16,
-    operations: [Operation; 6],
-    done: u16,
-}
-
-fn any_test_names(tests: &[Cell], parameter: u16) -> bool
-    ensures { result ≡ test_named tests.now parameter }
-{
-    for test in tests {
-        if test.names(parameter) {
-            return true;
-        }
-    }
-    false
-}
-
-fn any_names(operations: &[Operation], parameter: u16) -> bool
-    ensures { result ≡ named operations.now parameter }
-{
-    for operation in operations {
-        if operation.names(parameter) {
-            return true;
-        }
-    }
-    false
-}
-
-fn any_creates(operations: &[Operation], parameter: u16) -> bool
-    ensures { result ≡ created operations.now parameter }
-{
-    for operation in operations {
-        if operation.creates(parameter) {
-            return true;
-        }
-    }
-    false
-}
-
-fn any_destroys(operations: &[Operation], parameter: u16) -> bool
-    ensures { result ≡ destroyed operations.now parameter }
-{
-    for operation in operations {
-        if operation.destroys(parameter) {
-            return true;
-        }
-    }
-    false
-}
-
-fn all_enter(operations: &[Operation]) -> bool
-    ensures { result ≡ every enters operations.now }
-{
-    for operation in operations {
-        if !operation.enters() {
-            return false;
-        }
-    }
-    true
+    formals: ArrayList<u16, 4>,
+    tests: ArrayList<Cell, 6>,
+    operations: ArrayList<Operation, 6>,
 }
 
 impl Command {
@@ -80,26 +23,26 @@ impl Command {
     pub fn formals(&self) -> &[u16]
         ensures { result.now ≡ (command_of self.now).formals }
     {
-        front(&self.formals, self.arity)
+        self.formals.as_slice()
     }
 
     pub fn tests(&self) -> &[Cell]
         ensures { result.now ≡ (command_of self.now).tests }
     {
-        front(&self.tests, self.asked)
+        self.tests.as_slice()
     }
 
     pub fn operations(&self) -> &[Operation]
         ensures { result.now ≡ (command_of self.now).operations }
     {
-        front(&self.operations, self.done)
+        self.operations.as_slice()
     }
 
     // How many parameters the command has.
     pub fn arity(&self) -> u16
         ensures { result ≡ length (command_of self.now).formals }
     {
-        self.arity.min(4)
+        self.formals.as_slice().len() as u16
     }
 
     // The formal type of a parameter.
@@ -113,26 +56,55 @@ impl Command {
     pub fn creates(&self, parameter: u16) -> bool
         ensures { result ≡ created (command_of self.now).operations parameter }
     {
-        any_creates(self.operations(), parameter)
+        self.operations()
+            .iter()
+            .any(|operation| operation.creates(parameter))
     }
 
     // Whether every operation is an enter.
     pub fn only_enters(&self) -> bool
         ensures { result ≡ only_enters (command_of self.now) }
     {
-        all_enter(self.operations())
+        self.operations()
+            .iter()
+            .all(|operation| operation.entered().is_some())
     }
 
     pub(crate) fn has_parameter(&self, parameter: u16) -> bool
         ensures { result ≡ has_parameter (command_of self.now).formals parameter }
     {
-        1 <= parameter && (parameter as usize) <= self.formals().len()
+        (1..=self.arity()).contains(&parameter)
     }
 
     pub(crate) fn has_operations(&self) -> bool
         ensures { result ≡ has_operations (command_of self.now) }
     {
-        1 <= self.operations().len()
+        !self.operations().is_empty()
+    }
+
+    // Whether a test names a parameter.
+    fn tests_name(&self, parameter: u16) -> bool
+        ensures { result ≡ test_named (command_of self.now).tests parameter }
+    {
+        self.tests().iter().any(|test| test.names(parameter))
+    }
+
+    // Whether an operation names it.
+    fn names(&self, parameter: u16) -> bool
+        ensures { result ≡ named (command_of self.now).operations parameter }
+    {
+        self.operations()
+            .iter()
+            .any(|operation| operation.names(parameter))
+    }
+
+    // Whether an operation destroys it.
+    fn destroys(&self, parameter: u16) -> bool
+        ensures { result ≡ destroyed (command_of self.now).operations parameter }
+    {
+        self.operations()
+            .iter()
+            .any(|operation| operation.destroys(parameter))
     }
 
     // Whether an operation that comes next creates no parameter that a line before it names.
@@ -140,8 +112,7 @@ impl Command {
         ensures { result ≡ creates_fresh (command_of self.now).tests (command_of self.now).operations operation }
     {
         match operation {
-            Operation::Create(p) => !(any_test_names(self.tests(), p)
-                || any_names(self.operations(), p)),
+            Operation::Create(p) => !(self.tests_name(p) || self.names(p)),
             _ => true,
         }
     }
@@ -162,10 +133,9 @@ impl Command {
     {
         match operation {
             Operation::Enter(cell) | Operation::Delete(cell) => {
-                !(any_destroys(self.operations(), cell.row)
-                    || any_destroys(self.operations(), cell.column))
+                !(self.destroys(cell.row) || self.destroys(cell.column))
             }
-            Operation::Create(p) | Operation::Destroy(p) => !any_destroys(self.operations(), p),
+            Operation::Create(p) | Operation::Destroy(p) => !self.destroys(p),
         }
     }
 
@@ -183,35 +153,30 @@ impl Command {
         requires { length formals.now ≤ 4 }
         ensures { command_of result ≡ opened_with formals.now }
     {
-        let mut command = Command {
-            formals: [0; 4],
-            arity: formals.len() as u16,
-            tests: [Cell {
-                right: 0,
-                row: 0,
-                column: 0,
-            }; 6],
-            asked: 0,
-            operations: [Operation::Create(0); 6],
-            done: 0,
+        let blank = Cell {
+            right: 0,
+            row: 0,
+            column: 0,
         };
-        command.formals[0..formals.len()].copy_from_slice(formals);
-        command
+        Command {
+            formals: ArrayList::first_of(formals, 0),
+            tests: ArrayList::new(blank),
+            operations: ArrayList::new(Operation::Create(0)),
+        }
     }
 
+    // There is room, so that the list takes it. Tests and operations have a call each: to say which list is longer than both.
     pub(crate) fn push_test(&mut self, test: Cell)
         requires { length (command_of self.old).tests < 6 }
         ensures { command_of self.new ≡ with_test test (command_of self.old) }
     {
-        self.tests[self.asked as usize] = test;
-        self.asked += 1;
+        let _pushed = self.tests.push(test);
     }
 
     pub(crate) fn push_operation(&mut self, operation: Operation)
         requires { length (command_of self.old).operations < 6 }
         ensures { command_of self.new ≡ with_operation operation (command_of self.old) }
     {
-        self.operations[self.done as usize] = operation;
-        self.done += 1;
+        let _pushed = self.operations.push(operation);
     }
 }

@@ -1,6 +1,7 @@
 // Which calls of the writer a table of what is written so far allows.
 ghost use Rattle.std.specs.Prelude.{◌≡◌, length, nat_le};
-ghost use Rattle.scheme.specs.Each.{from_to, every};
+ghost use Rattle.std.specs.List.{list_all};
+ghost use Rattle.scheme.specs.Each.{from_to};
 ghost use Rattle.scheme.specs.Rules.{command_of, rules_of};
 ghost use Rattle.scheme.specs.Lawful.{is_declared, is_subject, lawful_cell, in_range};
 ghost use Rattle.scheme.specs.Written.{last_operates};
@@ -26,7 +27,7 @@ fn early(right: bool) -> SchemeFault
 fn has_arity(formals: &[u16]) -> bool
     ensures { result ≡ from_to 1 4 (length formals.now) }
 {
-    1 <= formals.len() && formals.len() <= 4
+    (1..=4).contains(&formals.len())
 }
 
 impl Table {
@@ -40,31 +41,23 @@ impl Table {
     fn is_declared(&self, number: u16) -> bool
         ensures { result ≡ is_declared (rules_of self.now).types number }
     {
-        1 <= number && (number as usize) <= self.types().len()
+        (1..=self.types().len()).contains(&(number as usize))
     }
 
     fn all_declared(&self, formals: &[u16]) -> bool
-        ensures { result ≡ every (is_declared (rules_of self.now).types) formals.now }
+        ensures { result ≡ list_all (is_declared (rules_of self.now).types) formals.now }
     {
-        for formal in formals {
-            if !self.is_declared(*formal) {
-                return false;
-            }
-        }
-        true
+        formals.iter().all(|formal| self.is_declared(*formal))
     }
 
     // Whether a parameter of a command has a subject type.
     fn is_subject(&self, command: &Command, parameter: u16) -> bool
         ensures { result ≡ is_subject (rules_of self.now).types (command_of command.now).formals parameter }
     {
-        match command.formal(parameter) {
-            Some(formal) => match self.type_kind(formal) {
-                Some(kind) => kind.is_subject(),
-                None => false,
-            },
-            None => false,
-        }
+        command
+            .formal(parameter)
+            .and_then(|formal| self.type_kind(formal))
+            .is_some_and(|kind| kind.is_subject())
     }
 
     // Whether right, row and column are in range in a command, and the row a subject.
@@ -89,7 +82,7 @@ impl Table {
     fn last_operates(&self) -> bool
         ensures { result ≡ last_operates (rules_of self.now) }
     {
-        self.is_empty() || self.last().has_operations()
+        self.last().is_none_or(|command| command.has_operations())
     }
 
     pub(crate) fn judge_type(&self) -> Result<(), SchemeFault>
@@ -131,14 +124,14 @@ impl Table {
         Ok(())
     }
 
-    // Whether a test may join the command opened last.
+    // Whether a test may join the command opened last. One call for both kinds, told which judgement, would be longer than these two.
     pub(crate) fn judge_test(&self, test: Cell) -> Result<(), SchemeFault>
         ensures { refusal result ≡ judged_test (rules_of self.now) test }
     {
-        if self.is_empty() {
-            return Err(early(is_right(test.right)));
+        match self.last() {
+            None => Err(early(is_right(test.right))),
+            Some(command) => self.judge_test_in(command, test),
         }
-        self.judge_test_in(self.last(), test)
     }
 
     fn judge_operation_in(&self, command: &Command, operation: Operation) -> Result<(), SchemeFault>
@@ -160,18 +153,18 @@ impl Table {
     pub(crate) fn judge_operation(&self, operation: Operation) -> Result<(), SchemeFault>
         ensures { refusal result ≡ judged_operation (rules_of self.now) operation }
     {
-        if self.is_empty() {
-            return Err(early(operation.has_right()));
+        match self.last() {
+            None => Err(early(operation.has_right())),
+            Some(command) => self.judge_operation_in(command, operation),
         }
-        self.judge_operation_in(self.last(), operation)
     }
 
     pub(crate) fn judge_finish(&self) -> Result<(), SchemeFault>
         ensures { refusal result ≡ judged_finish (rules_of self.now) }
     {
-        if self.is_empty() || !self.last_operates() {
-            return Err(SchemeFault::Unfinished);
+        match self.last() {
+            Some(command) if command.has_operations() => Ok(()),
+            _ => Err(SchemeFault::Unfinished),
         }
-        Ok(())
     }
 }

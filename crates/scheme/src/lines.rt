@@ -1,25 +1,27 @@
 // The lines of a command: tests and operations over its parameters.
 ghost use Rattle.std.specs.Prelude.{◌≡◌};
-ghost use Rattle.scheme.specs.Lines.{cell_names, names, creates, destroys, enters};
+ghost use Rattle.scheme.specs.Lines.{cell_names, names, creates, destroys, entered_cell};
 ghost use Rattle.scheme.specs.Lawful.{is_right, subject_kind};
 ghost use Rattle.scheme.specs.Refusals.{right_lawful};
 
-#[derive(Clone, Copy)]
+use std::fmt;
+
+#[derive(Clone, Copy, PartialEq, Eq, Debug)]
 pub enum TypeKind {
     Subject,
     // a pure object type
     Object,
 }
 
-// A right in the cell of two parameters of a command, which are given by their numbers.
-#[derive(Clone, Copy)]
+// A right in the cell of two parameters of a command, which are given by their numbers. No grant, though its fields are the same: that names places.
+#[derive(Clone, Copy, PartialEq, Eq, Debug)]
 pub struct Cell {
     pub right: u16,
     pub row: u16,
     pub column: u16,
 }
 
-#[derive(Clone, Copy)]
+#[derive(Clone, Copy, PartialEq, Eq, Debug)]
 pub enum Operation {
     Enter(Cell),
     Delete(Cell),
@@ -27,14 +29,39 @@ pub enum Operation {
     Destroy(u16),
 }
 
+impl fmt::Display for Cell {
+    ghost use Rattle.std.specs.Prelude.{Some};
+    ghost use Rattle.scheme.specs.Words.{cell_words};
+
+    ghost output = { λ c. Some (cell_words c) };
+
+    fn fmt<W: fmt::Write>(&self, f: &mut fmt::Formatter<W>) -> fmt::Result {
+        let Cell { right, row, column } = *self;
+        write!(f, "right {right} of {row} in {column}")
+    }
+}
+
+impl fmt::Display for Operation {
+    ghost use Rattle.std.specs.Prelude.{Some};
+    ghost use Rattle.scheme.specs.Words.{operation_words};
+
+    ghost output = { λ o. Some (operation_words o) };
+
+    fn fmt<W: fmt::Write>(&self, f: &mut fmt::Formatter<W>) -> fmt::Result {
+        match self {
+            Operation::Enter(cell) => write!(f, "enter {cell}"),
+            Operation::Delete(cell) => write!(f, "delete {cell}"),
+            Operation::Create(parameter) => write!(f, "create {parameter}"),
+            Operation::Destroy(parameter) => write!(f, "destroy {parameter}"),
+        }
+    }
+}
+
 impl TypeKind {
     pub fn is_subject(self) -> bool
         ensures { result ≡ subject_kind self }
     {
-        match self {
-            TypeKind::Subject => true,
-            TypeKind::Object => false,
-        }
+        matches!(self, TypeKind::Subject)
     }
 }
 
@@ -42,7 +69,7 @@ impl TypeKind {
 pub(crate) fn is_right(right: u16) -> bool
     ensures { result ≡ is_right right }
 {
-    1 <= right && right <= 32
+    (1..=32).contains(&right)
 }
 
 impl Cell {
@@ -54,6 +81,16 @@ impl Cell {
 }
 
 impl Operation {
+    // The cell that an enter enters, none for another operation.
+    pub fn entered(self) -> Option<Cell>
+        ensures { result ≡ entered_cell self }
+    {
+        match self {
+            Operation::Enter(cell) => Some(cell),
+            _ => None,
+        }
+    }
+
     pub(crate) fn names(self, parameter: u16) -> bool
         ensures { result ≡ names self parameter }
     {
@@ -66,28 +103,13 @@ impl Operation {
     pub(crate) fn creates(self, parameter: u16) -> bool
         ensures { result ≡ creates self parameter }
     {
-        match self {
-            Operation::Create(p) => p == parameter,
-            _ => false,
-        }
+        matches!(self, Operation::Create(p) if p == parameter)
     }
 
     pub(crate) fn destroys(self, parameter: u16) -> bool
         ensures { result ≡ destroys self parameter }
     {
-        match self {
-            Operation::Destroy(p) => p == parameter,
-            _ => false,
-        }
-    }
-
-    pub(crate) fn enters(self) -> bool
-        ensures { result ≡ enters self }
-    {
-        match self {
-            Operation::Enter(_) => true,
-            _ => false,
-        }
+        matches!(self, Operation::Destroy(p) if p == parameter)
     }
 
     // Whether the right of an enter or a delete is one; a create and a destroy have none.

@@ -1,11 +1,9 @@
 // A scheme spelled out to the writer, line by line.
-ghost use Rattle.std.specs.Prelude.{◌≡◌, ◌<◌, ◌≤◌, true, false, [], length, is_ok, Some};
-ghost use Rattle.scheme.specs.Each.{every, each_after};
+ghost use Rattle.std.specs.Prelude.{◌≡◌, true, List, [], ◌∷◌, is_ok, Some};
+ghost use Rattle.std.specs.List.{flat_map};
 ghost use Rattle.scheme.specs.Rules.{command_of, rules_of};
-ghost use Rattle.scheme.specs.Lawful.{lawful_cell, lawful_operation, destroys_older, lawful_command, lawful};
-ghost use Rattle.scheme.specs.Written.{no_rules, opened_with, with_command, last_of, on_last, no_commands, last_operates};
-ghost use Rattle.scheme.specs.Copied.{with_tests, with_operations, rules_with};
-ghost use Rattle.scheme.specs.Spelling.{written_by, spelled};
+ghost use Rattle.scheme.specs.Written.{no_rules};
+ghost use Rattle.scheme.specs.Spelling.{Line, declares, tests_for, operates, written_by, written_if, command_lines, spelled};
 
 use crate::commands::Command;
 use crate::faults::SchemeFault;
@@ -13,73 +11,58 @@ use crate::lines::{Cell, Operation, TypeKind};
 use crate::schemes::Scheme;
 use crate::writers::SchemeWriter;
 
-fn write_types(types: &[TypeKind], writer: &mut SchemeWriter) -> Result<(), SchemeFault>
-    requires start { rules_of writer.old.table ≡ no_rules }
-    requires few { length types.now ≤ 16 }
-    ensures ok { is_ok result ≡ true }
-    ensures written { rules_of writer.new.table ≡ rules_with types.now [] }
+// What is spelled out to the writer in one line or in several, up to the first that is refused.
+trait Spelled {
+    ghost lines: { Self → List Line };
+
+    fn write(&self, writer: &mut SchemeWriter) -> Result<(), SchemeFault>
+        ensures { written_by (rules_of writer.old.table) (lines self.now) ≡ written_if result (rules_of writer.new.table) };
+}
+
+#[tactic(auto, using(crate::proofs::Steps::written))]
+fn write_all<T: Spelled>(items: &[T], writer: &mut SchemeWriter) -> Result<(), SchemeFault>
+    ensures { written_by (rules_of writer.old.table) (flat_map T.lines items.now) ≡ written_if result (rules_of writer.new.table) }
 {
-    for kind in types {
-        writer.declare_type(*kind)?;
+    for item in items {
+        item.write(writer)?;
     }
     Ok(())
 }
 
-// The tests of the command opened last, which has no line yet.
-fn write_tests(tests: &[Cell], writer: &mut SchemeWriter) -> Result<(), SchemeFault>
-    requires some { no_commands (rules_of writer.old.table) ≡ false }
-    requires fresh { last_of (rules_of writer.old.table).commands ≡ opened_with (last_of (rules_of writer.old.table).commands).formals }
-    requires few { length tests.now ≤ 6 }
-    requires kept { every (lawful_cell (rules_of writer.old.table).types (last_of (rules_of writer.old.table).commands).formals) tests.now ≡ true }
-    ensures ok { is_ok result ≡ true }
-    ensures written { rules_of writer.new.table ≡ on_last (with_tests tests.now) (rules_of writer.old.table) }
-{
-    for test in tests {
-        writer.add_test(*test)?;
+impl Spelled for TypeKind {
+    ghost lines = { λ k. declares k ∷ [] };
+
+    fn write(&self, writer: &mut SchemeWriter) -> Result<(), SchemeFault> {
+        writer.declare_type(*self)
     }
-    Ok(())
 }
 
-// The operations of the command opened last, which has none yet.
-fn write_operations(operations: &[Operation], writer: &mut SchemeWriter) -> Result<(), SchemeFault>
-    requires some { no_commands (rules_of writer.old.table) ≡ false }
-    requires none { (last_of (rules_of writer.old.table).commands).operations ≡ [] }
-    requires few { length operations.now ≤ 6 }
-    requires kept { each_after (lawful_operation (rules_of writer.old.table).types (last_of (rules_of writer.old.table).commands).formals (last_of (rules_of writer.old.table).commands).tests) [] operations.now ≡ true }
-    requires apart { every (destroys_older operations.now) operations.now ≡ true }
-    ensures ok { is_ok result ≡ true }
-    ensures written { rules_of writer.new.table ≡ on_last (with_operations operations.now) (rules_of writer.old.table) }
-{
-    for operation in operations {
-        writer.add_operation(*operation)?;
+impl Spelled for Cell {
+    ghost lines = { λ t. tests_for t ∷ [] };
+
+    fn write(&self, writer: &mut SchemeWriter) -> Result<(), SchemeFault> {
+        writer.add_test(*self)
     }
-    Ok(())
 }
 
-// One command with all its lines, after the commands that are written.
-fn write_command(command: &Command, writer: &mut SchemeWriter) -> Result<(), SchemeFault>
-    requires room { length (rules_of writer.old.table).commands < 32 }
-    requires operates { last_operates (rules_of writer.old.table) ≡ true }
-    requires kept { lawful_command (rules_of writer.old.table).types (command_of command.now) ≡ true }
-    ensures ok { is_ok result ≡ true }
-    ensures written { rules_of writer.new.table ≡ with_command (command_of command.now) (rules_of writer.old.table) }
-{
-    writer.open_command(command.formals())?;
-    write_tests(command.tests(), writer)?;
-    write_operations(command.operations(), writer)
+impl Spelled for Operation {
+    ghost lines = { λ o. operates o ∷ [] };
+
+    fn write(&self, writer: &mut SchemeWriter) -> Result<(), SchemeFault> {
+        writer.add_operation(*self)
+    }
 }
 
-// All commands, after the types.
-fn write_commands(commands: &[Command], writer: &mut SchemeWriter) -> Result<(), SchemeFault>
-    requires start { (rules_of writer.old.table).commands ≡ [] }
-    requires kept { lawful (rules_with (rules_of writer.old.table).types commands.now) ≡ true }
-    ensures ok { is_ok result ≡ true }
-    ensures written { rules_of writer.new.table ≡ rules_with (rules_of writer.old.table).types commands.now }
-{
-    for command in commands {
-        write_command(command, writer)?;
+// One command with all its lines.
+impl Spelled for Command {
+    ghost lines = { λ c. command_lines (command_of c) };
+
+    #[tactic(auto, using(crate::proofs::Steps::written))]
+    fn write(&self, writer: &mut SchemeWriter) -> Result<(), SchemeFault> {
+        writer.open_command(self.formals())?;
+        write_all(self.tests(), writer)?;
+        write_all(self.operations(), writer)
     }
-    Ok(())
 }
 
 // Spells a scheme out to the writer, which starts anew: all types, and of each command the formal types, the tests and
@@ -95,7 +78,7 @@ pub fn rewrite(
     ensures written { rules_of writer.new.table ≡ rules_of scheme.now.table }
 {
     *writer = SchemeWriter::new();
-    write_types(scheme.table.types(), writer)?;
-    write_commands(scheme.table.commands(), writer)?;
+    write_all(scheme.table.types(), writer)?;
+    write_all(scheme.table.commands(), writer)?;
     writer.finish(into)
 }

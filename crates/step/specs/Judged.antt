@@ -1,5 +1,6 @@
 -- When a step is refused, and with which number.
-use Rattle.std.specs.Prelude.{ℕ, cond, List, length, Some, None, Ok, Err, Option, Result, ◌==◌, nat_le}
+use Rattle.std.specs.Prelude.{ℕ, cond, List, length, Some, None, Option, Result, ◌==◌, nat_le}
+use Rattle.refusals.specs.Refusals.{refusal_by}
 use Rattle.matrix.specs.Standing.{Meaning}
 use Rattle.scheme.specs.Each.{numbered}
 use Rattle.scheme.specs.Rules.{Rules, CommandRules, only_enters}
@@ -16,8 +17,7 @@ number_of NoRoom = 12
 
 -- the number of a step's refusal, 0 where it was accepted
 abbrev pub step_refusal : {X : Type 0} → Result X StepFault → ℕ
-step_refusal (Ok x) = 0
-step_refusal (Err f) = number_of f
+step_refusal r = refusal_by number_of r
 
 -- a command at places on a matrix: the number of places, then the places, the condition, and the room for the need
 abbrev pub judged_command : CommandRules → Meaning → List ℕ → ℕ

@@ -5,3 +5,4 @@ pub mod Runs
 pub mod Permitted
 pub mod Granting
 pub mod Lists
+pub mod Words

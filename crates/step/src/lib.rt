@@ -8,7 +8,7 @@ mod runs;
 mod steps;
 
 pub use faults::StepFault;
-pub use judges::{holds, is_apart, is_typed, placed};
-pub use lists::{StepRefusal, run_steps};
+pub use judges::{Attempt, holds, is_apart, placed};
+pub use lists::run_steps;
 pub use runs::{enter_step, run_step};
 pub use steps::Step;

@@ -1,12 +1,13 @@
 ghost use Rattle.std.specs.Prelude.{◌≡◌, take};
 ghost use Rattle.step.specs.Lists.{step_of};
 
+use records::ArrayList;
+
 // A command's number and its places. A command takes at most four; a fifth is kept, so that a step with too many places is told apart.
-#[derive(Clone, Copy)]
+#[derive(Clone, Copy, PartialEq, Eq)]
 pub struct Step {
     command: u16,
-    places: [u16; 5],
-    used: usize,
+    places: ArrayList<u16, 5>,
 }
 
 impl Step {
@@ -14,14 +15,10 @@ impl Step {
     pub fn new(command: u16, places: &[u16]) -> Step
         ensures { step_of result ≡ record { command = command; places = take 5 places.now } }
     {
-        let used = places.len().min(5);
-        let mut step = Step {
+        Step {
             command,
-            places: [0; 5],
-            used,
-        };
-        step.places[0..used].copy_from_slice(&places[0..used]);
-        step
+            places: ArrayList::first_of(places, 0),
+        }
     }
 
     pub fn command(&self) -> u16
@@ -33,10 +30,6 @@ impl Step {
     pub fn places(&self) -> &[u16]
         ensures { result.now ≡ (step_of self.now).places }
     {
-        if self.used < 5 {
-            &self.places[0..self.used]
-        } else {
-            &self.places
-        }
+        self.places.as_slice()
     }
 }

@@ -9,12 +9,12 @@ mod stories;
 
 use grant_list::GrantList;
 use grid::Grid;
-use matrix::Grant;
+use matrix::{Grant, MemoryFault};
 use reads::line_story;
 use runs::step_story;
 use scheme::Scheme;
 use schemes::scheme_story;
-use shows::say_memory;
+use shows::tell;
 use std::io;
 use stories::{register_story, trial_story};
 
@@ -35,20 +35,36 @@ fn main(rt: HostRuntime) -> io::Result<()> {
     line_story(&rt)
 }
 
+// A grant from its three numbers.
+pub fn grant(right: u16, row: u16, column: u16) -> Grant {
+    Grant { right, row, column }
+}
+
 // Which memory serves for which register.
 fn memory_story(rt: &HostRuntime) -> io::Result<()> {
     println!(rt)?;
     println!(rt; "== Memory for a register ==")?;
-    print!(rt; "a grid of 4 places in 16 cells: ")?;
-    say_memory(rt, Grid::check(4, 16))?;
-    print!(rt; "a grid of 4 places in 15 cells: ")?;
-    say_memory(rt, Grid::check(4, 15))?;
-    print!(rt; "a grid of 129 places in 20000 cells: ")?;
-    say_memory(rt, Grid::check(129, 20000))?;
-    print!(rt; "a grant list of 4 places in 3 records: ")?;
-    say_memory(rt, GrantList::check(4, 3))?;
-    print!(rt; "a grant list of 4 places in 4097 records: ")?;
-    say_memory(rt, GrantList::check(4, 4097))
+    serves(rt, "a grid of 4 places in 16 cells", Grid::check(4, 16))?;
+    serves(rt, "a grid of 4 places in 15 cells", Grid::check(4, 15))?;
+    serves(
+        rt,
+        "a grid of 129 places in 20000 cells",
+        Grid::check(129, 20000),
+    )?;
+    serves(
+        rt,
+        "a grant list of 4 places in 3 records",
+        GrantList::check(4, 3),
+    )?;
+    serves(
+        rt,
+        "a grant list of 4 places in 4097 records",
+        GrantList::check(4, 4097),
+    )
+}
+
+fn serves(rt: &HostRuntime, memory: &str, told: Result<(), MemoryFault>) -> io::Result<()> {
+    tell(rt, memory, "it serves", told)
 }
 
 fn grid_story(rt: &HostRuntime) -> io::Result<()> {
@@ -65,11 +81,7 @@ fn grid_story(rt: &HostRuntime) -> io::Result<()> {
 fn list_story(rt: &HostRuntime) -> io::Result<()> {
     println!(rt)?;
     println!(rt; "== A grant list of 4 places and 3 records, in memory full of old records ==")?;
-    let mut records = [Grant {
-        right: 3,
-        row: 3,
-        column: 4,
-    }; 3];
+    let mut records = [grant(3, 3, 4); 3];
     let mut list = GrantList::open(&mut records, 4);
     register_story(rt, &mut list)?;
     println!(rt)?;
@@ -89,10 +101,6 @@ fn travel_story(rt: &HostRuntime) -> io::Result<()> {
     step_story(rt, &scheme, Grid::open(&mut cells, 4))?;
     println!(rt)?;
     println!(rt; "== Its steps on a grant list of 2 records ==")?;
-    let mut records = [Grant {
-        right: 0,
-        row: 0,
-        column: 0,
-    }; 2];
+    let mut records = [grant(0, 0, 0); 2];
     step_story(rt, &scheme, GrantList::open(&mut records, 4))
 }

@@ -1,35 +1,16 @@
-use lines::{Kind, read_line};
+use lines::read_line;
+use refusals::Fault;
 use std::io;
-
-fn kind_words(kind: Kind) -> &'static str {
-    match kind {
-        Kind::Declare => "declares a type",
-        Kind::Command => "opens a command",
-        Kind::Test => "adds a test",
-        Kind::Enter => "adds an enter",
-        Kind::Delete => "adds a delete",
-        Kind::Create => "adds a create",
-        Kind::Destroy => "adds a destroy",
-        Kind::Grid => "opens a grid",
-        Kind::Grants => "opens a grant list",
-        Kind::Place => "fills a place",
-        Kind::Hold => "enters a first right",
-        Kind::Step => "runs a step",
-        Kind::Close => "closes the lot",
-        Kind::Ask => "asks a question",
-        Kind::Reopen => "reopens the lot",
-    }
-}
 
 fn say_line(rt: &HostRuntime, text: &str) -> io::Result<()> {
     match read_line(text.as_bytes()) {
         Ok(line) => {
-            let words = kind_words(line.kind());
-            println!(rt; "`{text}` {words}")
+            let kind = line.kind();
+            println!(rt; "`{text}` {kind}")
         }
         Err(fault) => {
             let number = fault.number();
-            println!(rt; "`{text}` is refused with {number}: it is no line")
+            println!(rt; "`{text}` is refused with {number}: {fault}")
         }
     }
 }

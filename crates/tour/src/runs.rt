@@ -1,19 +1,11 @@
-use crate::shows::show_matrix;
-use matrix::{Grant, Matrix, Register};
+use crate::grant;
+use crate::shows::{say, show_matrix};
+use matrix::{Matrix, Register};
+use refusals::{Fault, FirstRefusal};
 use scheme::Scheme;
 use std::io;
 use step::{Step, StepFault, enter_step, run_step, run_steps};
 use trial::Trial;
-
-fn step_words(fault: StepFault) -> &'static str {
-    match fault {
-        StepFault::NoSuchStep =>
-            "no such command, a wrong number of places, or more than enters on a trial",
-        StepFault::WrongPlace => "a place out of range, repeated, or of the wrong type or filling",
-        StepFault::ConditionFalse => "a test does not find its right",
-        StepFault::NoRoom => "the new rights exceed the room",
-    }
-}
 
 fn say_step(
     rt: &HostRuntime,
@@ -21,14 +13,11 @@ fn say_step(
     places: &[u16],
     told: Result<(), StepFault>,
 ) -> io::Result<()> {
-    match told {
-        Ok(()) => println!(rt; "command {number} at places {places:?}: done"),
-        Err(fault) => {
-            let refusal = fault.number();
-            let why = step_words(fault);
-            println!(rt; "command {number} at places {places:?}: refused with {refusal}: {why}")
-        }
-    }
+    say(
+        rt,
+        format_args!("command {number} at places {places:?}"),
+        told,
+    )
 }
 
 fn on_register<R: Register>(
@@ -57,11 +46,7 @@ fn fill<R: Register>(register: &mut R) {
     for place in 1..5u16 {
         let _ = register.create(place, place);
     }
-    let _ = register.enter(Grant {
-        right: 1,
-        row: 1,
-        column: 4,
-    });
+    let _ = register.enter(grant(1, 1, 4));
 }
 
 // A list of steps, up to the first that is refused.
@@ -77,9 +62,8 @@ fn list_of_steps<R: Register>(
     ];
     match run_steps(scheme, register, &steps) {
         Ok(()) => println!(rt; "a list of 3 steps: all done"),
-        Err(refusal) => {
-            let position = refusal.position;
-            let number = refusal.fault.number();
+        Err(FirstRefusal { position, fault }) => {
+            let number = fault.number();
             println!(rt; "a list of 3 steps: {position} done, then refused with {number}")
         }
     }

@@ -1,50 +1,29 @@
-use matrix::{Grant, Matrix, MatrixFault, MemoryFault};
-use std::io;
+use matrix::{Grant, Matrix};
+use refusals::Fault;
+use std::{fmt, io};
 
-// What a refusal means, in words.
-fn words(fault: MatrixFault) -> &'static str {
-    match fault {
-        MatrixFault::OutOfRange => "a right, a place or a type is out of range",
-        MatrixFault::WrongFilling => "a place is empty, or filled, against the call",
-        MatrixFault::NoRoom => "there is no room for a new right",
-    }
-}
-
-fn memory_words(fault: MemoryFault) -> &'static str {
-    match fault {
-        MemoryFault::Places => "there are 1 to 128 places",
-        MemoryFault::ShortGrid => "a grid wants a cell for each pair of places",
-        MemoryFault::LongList => "a grant list has at most 4096 records",
-    }
-}
-
-pub fn say_result(rt: &HostRuntime, told: Result<(), MatrixFault>) -> io::Result<()> {
+// A call, and what became of it: the word for done, or the refusal.
+pub fn tell<F: Fault + fmt::Display>(
+    rt: &HostRuntime,
+    call: impl fmt::Display + Drop,
+    done: &str,
+    told: Result<(), F>,
+) -> io::Result<()> {
     match told {
-        Ok(()) => println!(rt; "done"),
+        Ok(()) => println!(rt; "{call}: {done}"),
         Err(fault) => {
             let number = fault.number();
-            let why = words(fault);
-            println!(rt; "refused with {number}: {why}")
+            println!(rt; "{call}: refused with {number}: {fault}")
         }
     }
 }
 
-pub fn say_memory(rt: &HostRuntime, told: Result<(), MemoryFault>) -> io::Result<()> {
-    match told {
-        Ok(()) => println!(rt; "it serves"),
-        Err(fault) => {
-            let number = fault.number();
-            let why = memory_words(fault);
-            println!(rt; "refused with {number}: {why}")
-        }
-    }
-}
-
-pub fn say_grant(rt: &HostRuntime, verb: &str, grant: Grant) -> io::Result<()> {
-    let right = grant.right;
-    let row = grant.row;
-    let column = grant.column;
-    print!(rt; "{verb} right {right} of place {row} in place {column}: ")
+pub fn say<F: Fault + fmt::Display>(
+    rt: &HostRuntime,
+    call: impl fmt::Display + Drop,
+    told: Result<(), F>,
+) -> io::Result<()> {
+    tell(rt, call, "done", told)
 }
 
 fn show_type<M: Matrix>(rt: &HostRuntime, matrix: &M, place: u16) -> io::Result<()> {

@@ -1,30 +1,16 @@
-use crate::shows::{say_grant, say_result, show_matrix};
+use crate::grant;
+use crate::shows::{say, show_matrix};
 use matrix::{Grant, Matrix, Register, enter_all};
+use refusals::{Fault, FirstRefusal};
 use std::io;
 use trial::Trial;
 
-fn enter<M: Matrix>(
-    rt: &HostRuntime,
-    matrix: &mut M,
-    right: u16,
-    row: u16,
-    column: u16,
-) -> io::Result<()> {
-    let grant = Grant { right, row, column };
-    say_grant(rt, "enter", grant)?;
-    say_result(rt, matrix.enter(grant))
+fn enter<M: Matrix>(rt: &HostRuntime, matrix: &mut M, grant: Grant) -> io::Result<()> {
+    say(rt, format_args!("enter {grant}"), matrix.enter(grant))
 }
 
-fn delete<R: Register>(
-    rt: &HostRuntime,
-    register: &mut R,
-    right: u16,
-    row: u16,
-    column: u16,
-) -> io::Result<()> {
-    let grant = Grant { right, row, column };
-    say_grant(rt, "delete", grant)?;
-    say_result(rt, register.delete(grant))
+fn delete<R: Register>(rt: &HostRuntime, register: &mut R, grant: Grant) -> io::Result<()> {
+    say(rt, format_args!("delete {grant}"), register.delete(grant))
 }
 
 fn create<R: Register>(
@@ -33,13 +19,19 @@ fn create<R: Register>(
     place: u16,
     kind: u16,
 ) -> io::Result<()> {
-    print!(rt; "create place {place} with type {kind}: ")?;
-    say_result(rt, register.create(place, kind))
+    say(
+        rt,
+        format_args!("create place {place} with type {kind}"),
+        register.create(place, kind),
+    )
 }
 
 fn destroy<R: Register>(rt: &HostRuntime, register: &mut R, place: u16) -> io::Result<()> {
-    print!(rt; "destroy place {place}: ")?;
-    say_result(rt, register.destroy(place))
+    say(
+        rt,
+        format_args!("destroy place {place}"),
+        register.destroy(place),
+    )
 }
 
 // Enters grants one after the other, and tells the first that is refused.
@@ -48,10 +40,9 @@ fn enter_list<M: Matrix>(rt: &HostRuntime, matrix: &mut M, grants: &[Grant]) -> 
     print!(rt; "enter a list of {count} grants: ")?;
     match enter_all(matrix, grants) {
         Ok(()) => println!(rt; "all done"),
-        Err(refusal) => {
-            let position = refusal.position;
-            print!(rt; "{position} done, then ")?;
-            say_result(rt, Err(refusal.fault))
+        Err(FirstRefusal { position, fault }) => {
+            let number = fault.number();
+            println!(rt; "{position} done, then refused with {number}: {fault}")
         }
     }
 }
@@ -65,37 +56,21 @@ pub fn register_story<R: Register>(rt: &HostRuntime, register: &mut R) -> io::Re
     create(rt, register, 5, 4)?;
     create(rt, register, 4, 17)?;
     create(rt, register, 4, 4)?;
-    enter(rt, register, 1, 1, 4)?;
-    enter(rt, register, 1, 1, 4)?;
-    enter(rt, register, 33, 1, 4)?;
-    enter(rt, register, 3, 3, 4)?;
+    enter(rt, register, grant(1, 1, 4))?;
+    enter(rt, register, grant(1, 1, 4))?;
+    enter(rt, register, grant(33, 1, 4))?;
+    enter(rt, register, grant(3, 3, 4))?;
     change_story(rt, register)
 }
 
 fn change_story<R: Register>(rt: &HostRuntime, register: &mut R) -> io::Result<()> {
     create(rt, register, 3, 3)?;
-    let sales = [
-        Grant {
-            right: 2,
-            row: 1,
-            column: 2,
-        },
-        Grant {
-            right: 2,
-            row: 2,
-            column: 4,
-        },
-        Grant {
-            right: 3,
-            row: 3,
-            column: 4,
-        },
-    ];
+    let sales = [grant(2, 1, 2), grant(2, 2, 4), grant(3, 3, 4)];
     enter_list(rt, register, &sales)?;
     show_matrix(rt, register)?;
-    delete(rt, register, 2, 1, 2)?;
-    delete(rt, register, 2, 1, 2)?;
-    enter(rt, register, 2, 2, 2)?;
+    delete(rt, register, grant(2, 1, 2))?;
+    delete(rt, register, grant(2, 1, 2))?;
+    enter(rt, register, grant(2, 2, 2))?;
     show_matrix(rt, register)?;
     destroy(rt, register, 2)?;
     destroy(rt, register, 2)?;
@@ -107,29 +82,13 @@ fn change_story<R: Register>(rt: &HostRuntime, register: &mut R) -> io::Result<(
 pub fn trial_story<M: Matrix + Drop>(rt: &HostRuntime, below: M) -> io::Result<()> {
     let mut trial = Trial::new(below);
     show_matrix(rt, &trial)?;
-    enter(rt, &mut trial, 1, 1, 4)?;
-    let plays = [
-        Grant {
-            right: 3,
-            row: 3,
-            column: 4,
-        },
-        Grant {
-            right: 2,
-            row: 3,
-            column: 4,
-        },
-        Grant {
-            right: 4,
-            row: 3,
-            column: 5,
-        },
-    ];
+    enter(rt, &mut trial, grant(1, 1, 4))?;
+    let plays = [grant(3, 3, 4), grant(2, 3, 4), grant(4, 3, 5)];
     enter_list(rt, &mut trial, &plays)?;
     show_matrix(rt, &trial)?;
     println!(rt; "a second trial over the first:")?;
     let mut second = Trial::new(trial);
-    enter(rt, &mut second, 4, 1, 3)?;
+    enter(rt, &mut second, grant(4, 1, 3))?;
     show_matrix(rt, &second)?;
     println!(rt; "the first trial, as it was, and then emptied:")?;
     let mut trial = second.into_below();

@@ -1,18 +1,15 @@
 -- What a trial means: what stands below together with its own rights; its room is 512 less those.
-use Rattle.std.specs.Prelude.{◌≡◌, ◌-◌, true, ◌&&◌, ◌||◌, List, length, take}
+use Rattle.std.specs.Prelude.{◌≡◌, ◌-◌, true, ◌&&◌, ◌||◌, List, length}
 use Rattle.std.proofs.Common.{⊎_elim, arith}
 use Rattle.std.proofs.lemmas.Bool.{and_parts, or_cases}
+use Rattle.records.specs.Arrays.{elements}
 use Rattle.matrix.specs.Listed.{listed}
 use Rattle.matrix.specs.Standing.{Standing, Meaning, Lawful, stands}
 use Rattle.matrix.specs.declared.grants.Grant.{Grant}
-use Rattle.trial.specs.declared.overlay.OwnRights.{OwnRights}
 use Rattle.trial.specs.declared.overlay.Trial.{Trial}
 
-abbrev pub own_list : OwnRights → List Grant
-own_list o = take o.used o.rights
-
 abbrev pub own_rights : {M : Type 0} → Trial M → List Grant
-own_rights t = own_list t.own
+own_rights t = elements t.own
 
 -- an own right is held while both its places are filled
 abbrev pub shown_with : Standing → List Grant → Standing

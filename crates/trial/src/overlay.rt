@@ -1,21 +1,15 @@
-ghost use Rattle.std.specs.Prelude.{◌≡◌, length};
+ghost use Rattle.std.specs.Prelude.{◌≤◌, length};
+ghost use Rattle.records.specs.Arrays.{elements};
 
 use matrix::Grant;
+use records::ArrayList;
 
 pub mod calls;
-mod owns;
 
-// The bounded list of a trial's own rights.
-#[derive(Clone, Copy)]
-struct OwnRights {
-    rights: [Grant; 512],
-    used: usize,
-}
-
-// Rights laid over a matrix, which is never written.
+// Rights laid over a matrix, which is never written: up to 512 of the trial's own.
 #[derive(Drop)]
 pub struct Trial<M> {
     below: M,
-    own: OwnRights,
-    ghost whole: { length own.rights ≡ 512 },
+    own: ArrayList<Grant, 512>,
+    ghost few: { length (elements own) ≤ 512 },
 }

@@ -3,7 +3,6 @@ ghost use Rattle.grant_list.specs.Means.{list_means, list_lawful};
 
 use super::GrantList;
 use matrix::{Grant, Matrix, MatrixFault};
-use records::Addition;
 
 impl Matrix for GrantList<'_> {
     ghost means = { list_means };
@@ -29,10 +28,7 @@ impl Matrix for GrantList<'_> {
 
     fn enter(&mut self, grant: Grant) -> Result<(), MatrixFault> {
         self.table.judge_grant(grant)?;
-        match self.grants.add(grant) {
-            Addition::Added => Ok(()),
-            Addition::AlreadyThere => Ok(()),
-            Addition::Full => Err(MatrixFault::NoRoom),
-        }
+        self.grants.add(grant)?;
+        Ok(())
     }
 }

@@ -1,22 +1,20 @@
 ghost use Rattle.std.specs.Prelude.{◌≡◌, ℕ, ◌+◌, ◌-◌, ◌*◌, ◌^◌, ◌<◌, ◌≤◌, Bool, true, length, sum_by, refl};
 ghost use Rattle.std.proofs.Common.{◌∙◌};
 ghost use Rattle.matrix.specs.Grants.{in_range};
-ghost use Rattle.matrix.specs.Refusals.{refusal, Accepted, Refused, enter_refusal};
-ghost use Rattle.matrix.specs.Calls.{Entered};
+ghost use Rattle.matrix.specs.Tables.{table_places};
 ghost use Rattle.grid.specs.Cells.{cell_at, bits};
 ghost use Rattle.grid.specs.Means.{grid_means, grid_lawful, beyond};
 
 use super::Grid;
-use matrix::{Grant, Matrix, MatrixFault};
+use matrix::{Grant, Matrix, MatrixFault, PlaceTable};
 
-// Where the cell of a grant lies, in a grid of so many places.
-pub(crate) fn cell_of(grant: Grant, places: u16) -> usize
-    requires grant_value { in_range places grant ≡ true }
-    requires places_bound { places ≤ 128 }
-    ensures at { result ≡ cell_at places grant }
-    ensures bound { result < places * places }
+// Where the cell of a grant lies, in a grid with these places.
+pub(crate) fn cell_of(grant: Grant, table: &PlaceTable) -> usize
+    requires { in_range (table_places table.now) grant ≡ true }
+    ensures at { result ≡ cell_at (table_places table.now) grant }
+    ensures bound { result < table_places table.now * table_places table.now }
 {
-    (grant.row - 1) as usize * places as usize + (grant.column - 1) as usize
+    (grant.row - 1) as usize * table.places() as usize + (grant.column - 1) as usize
 }
 
 // How many bits of the cells are set.
@@ -24,11 +22,7 @@ fn count(cells: &[u32]) -> u32
     requires { length cells.now ≤ 16384 }
     ensures { result ≡ sum_by bits cells.now }
 {
-    let mut sum = 0;
-    for c in cells {
-        sum += c.count_ones();
-    }
-    sum
+    cells.iter().map(|c| c.count_ones()).sum()
 }
 
 impl Matrix for Grid<'_> {
@@ -51,7 +45,7 @@ impl Matrix for Grid<'_> {
         if !self.table.judge_grant(grant).is_ok() {
             return false;
         }
-        self.cells[cell_of(grant, self.table.places())] >> (grant.right - 1) & 1 == 1
+        self.cells[cell_of(grant, &self.table)] >> (grant.right - 1) & 1 == 1
     }
 
     fn room(&self) -> u32 {
@@ -59,15 +53,9 @@ impl Matrix for Grid<'_> {
         (32 * (n * n)) as u32 - count(&self.cells[0..n * n])
     }
 
-    // The cells beyond n × n stay as they are.
-    fn enter(&mut self, grant: Grant) -> Result<(), MatrixFault>
-        ensures told { refusal result ≡ enter_refusal (grid_means self.old) grant }
-        ensures after { Accepted result (Entered (grid_means self.old) grant (grid_means self.new)) }
-        ensures same { Refused result (self.new ≡ self.old) }
-        ensures rest { beyond self.new ≡ beyond self.old }
-    {
+    fn enter(&mut self, grant: Grant) -> Result<(), MatrixFault> {
         self.table.judge_grant(grant)?;
-        let at = cell_of(grant, self.table.places());
+        let at = cell_of(grant, &self.table);
         self.cells[at] |= 1 << (grant.right - 1);
         Ok(())
     }

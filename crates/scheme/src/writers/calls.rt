@@ -3,7 +3,8 @@ ghost use Rattle.std.specs.Prelude.{◌≡◌, is_ok};
 ghost use Rattle.scheme.specs.Rules.{rules_of};
 ghost use Rattle.scheme.specs.Lawful.{lawful};
 ghost use Rattle.scheme.specs.Written.{no_rules, opened_with, with_type, with_command, with_test, with_operation, on_last};
-ghost use Rattle.scheme.specs.Refusals.{refusal, Accepted, Refused, judged_type, judged_command, judged_test, judged_operation, judged_finish};
+ghost use Rattle.refusals.specs.Refusals.{Accepted, Refused};
+ghost use Rattle.scheme.specs.Refusals.{refusal, judged_type, judged_command, judged_test, judged_operation, judged_finish};
 ghost use Rattle.scheme.specs.declared.lines.Operation.TheVariants.{Enter, Delete, Create, Destroy};
 
 use super::SchemeWriter;

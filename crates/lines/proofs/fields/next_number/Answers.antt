@@ -1,4 +1,4 @@
-use Rattle.lines.proofs.Shapes.{no_lead}
+use Rattle.lines.proofs.Splits.{no_lead}
 use Rattle.lines.proofs.fields.next_number.Goals as goal
 
 pub returns-in_err-n : goal.returns-in_err-n

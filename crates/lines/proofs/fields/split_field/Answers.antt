@@ -1,11 +1,13 @@
-use Rattle.std.proofs.Common.{sym}
-use Rattle.lines.proofs.Shapes.{spaceless_front, ended_back}
+use Rattle.std.proofs.Common.{arith}
+use Rattle.std.proofs.lemmas.List.Sums.{prefix_len-le-length}
+use Rattle.lines.proofs.Splits.{spaceless_front, ended_back}
 use Rattle.lines.proofs.fields.split_field.Goals as goal
 
-pub returns : goal.returns
-returns c =
-    record {
-      whole = sym c.split_at.ensures.by_index.0;
-      field = rw c.split_at.ensures.front (spaceless_front c.args.bytes.now c.field_length.result c.field_length.ensures.within c.field_length.ensures.before);
-      rest = rw c.split_at.ensures.back (ended_back c.args.bytes.now c.field_length.result c.field_length.ensures.found);
-    }
+pub split_at-requires : goal.split_at-requires
+split_at-requires c = grind (arith, prefix_len-le-length)
+
+pub returns-clause-field : goal.returns-clause-field
+returns-clause-field c = rw (c.split_at.ensures.front, c.field_length.ensures) (spaceless_front c.args.bytes.now)
+
+pub returns-clause-rest : goal.returns-clause-rest
+returns-clause-rest c = rw (c.split_at.ensures.back, c.field_length.ensures) (ended_back c.args.bytes.now)

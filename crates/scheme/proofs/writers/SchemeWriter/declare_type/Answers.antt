@@ -1,8 +1,6 @@
-use Rattle.std.proofs.Common.{sym, ap, ◌∙◌}
 use Rattle.scheme.specs.Rules.{rules_of}
-use Rattle.scheme.specs.Written.{sound}
 use Rattle.scheme.proofs.Sound.{sound_type}
 use Rattle.scheme.proofs.writers.SchemeWriter.declare_type.Goals as goal
 
 pub invariant_of-self : goal.invariant_of-self
-invariant_of-self c = record { kept = ap sound c.push_type.ensures ∙ sound_type (rules_of c.args.self.now.table) c.args.self.now.kept _ (sym c.in_ok-judge_type.ensures) }
+invariant_of-self c = record { kept = sound_type (rules_of c.args.self.now.table) c.args.self.now.kept _ _ c.push_type.ensures c.in_ok-judge_type.ensures }

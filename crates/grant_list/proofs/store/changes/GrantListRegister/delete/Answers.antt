@@ -1,8 +1,8 @@
-use Rattle.std.proofs.Common.{arith}
+use Rattle.std.proofs.Common.{sym, refl, ◌∙◌, arith}
 use Rattle.std.proofs.lemmas.List.{length-take}
 use Rattle.records.specs.Lent.{items, capacity}
 use Rattle.grant_list.proofs.Members.{apart_out}
-use Rattle.grant_list.proofs.Outcomes.{sound_out, out_deletes}
+use Rattle.grant_list.proofs.Outcomes.{sound_out, out_deletes, none_deletes}
 use Rattle.grant_list.proofs.store.changes.GrantListRegister.delete.Goals as goal
 
 pub invariant_of-self : goal.invariant_of-self
@@ -19,4 +19,10 @@ returns-in-Some c =
       after = out_deletes s.table (items s.grants) (items c.take_out.new.self) (capacity s.grants) (capacity c.take_out.new.self) e.size c.args.grant
           c.in-Some.found c.take_out.result c.in-Some.ensures e.told e.after s.distinct (omega (arith, length-take s.grants.used s.grants.records.now));
       same = tt;
+      kept = tt;
     }
+
+pub returns-in_default-clause-after : goal.returns-in_default-clause-after
+returns-in_default-clause-after c =
+    let s = c.args.self.now in
+    none_deletes s.table (items s.grants) (items s.grants) (capacity s.grants) (capacity s.grants) refl c.args.grant (sym c.in_default.is ∙ c.find.ensures)

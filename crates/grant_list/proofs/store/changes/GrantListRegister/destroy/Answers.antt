@@ -24,4 +24,5 @@ returns c =
           c.in_ok-judge_destroy.ensures (items s.grants) (items d.grants) c.drop_naming.ensures.after s.sound
           (capacity s.grants) (capacity d.grants) c.drop_naming.ensures.size (omega (arith, length-take s.grants.used s.grants.records.now));
       same = tt;
+      kept = tt;
     }

@@ -1,7 +1,5 @@
-use Rattle.std.proofs.Common.{◌≡◌, ℕ, ◌-◌, ◌/◌, ◌^◌, eqb, get_or, sym, ap, ◌∙◌, arith}
+use Rattle.std.proofs.Common.{◌≡◌, ℕ, ◌-◌, ◌/◌, ◌^◌, eqb, get_or, sym, ap, ◌∙◌}
 use Rattle.std.proofs.lemmas.Nat.{and_mask}
-use Rattle.matrix.specs.Grants.{in_range}
-use Rattle.matrix.specs.Stored.{few_places}
 use Rattle.matrix.specs.Tables.{table_places, table_type}
 use Rattle.matrix.proofs.Shown.{cell-fits, refused_unheld, ok_number}
 use Rattle.grid.specs.Cells.{bit, cell_at, in_cells}
@@ -20,7 +18,7 @@ cell_of-requires c =
     let g = c.args.grant in
     let fits = cell-fits (table_places t) (table_type t g.row) (table_type t g.column) g
     (ok_number c.judge_grant.result (sym c.if-not-is_ok.ensures.value) ∙ c.judge_grant.ensures) in
-    (record { grant_value = ap (λ (n : ℕ). in_range n g) c.places.ensures ∙ fits.0; places_bound = omega (arith, few_places t, c.places.ensures) })
+    fits.0
 
 pub returns : goal.returns
 returns c =
@@ -29,7 +27,7 @@ returns c =
     let g = c.args.grant in
     let fits = cell-fits n (table_type s.table g.row) (table_type s.table g.column) g
     (ok_number c.judge_grant.result (sym c.if-not-is_ok.ensures.value) ∙ c.judge_grant.ensures) in
-    let at : c.cell_of.result ≡ cell_at n g = c.cell_of.ensures.at ∙ ap (λ (m : ℕ). cell_at m g) c.places.ensures in
+    let at : c.cell_of.result ≡ cell_at n g = c.cell_of.ensures.at in
     ap (λ (x : ℕ). eqb x 1) (and_mask (get_or s.cells.now c.cell_of.result 0 / 2 ^ (g.right - 1)) 1
     ∙ ap (λ (i : ℕ). bit (g.right - 1) (get_or s.cells.now i 0)) at)
     ∙ sym (bit_decides n s.cells.now g fits.0)

@@ -1,7 +1,5 @@
-use Rattle.std.proofs.Common.{◌≡◌, ℕ, ◌-◌, ◌*◌, ◌%◌, ◌^◌, sym, refl, ap, ◌∙◌, arith}
+use Rattle.std.proofs.Common.{◌≡◌, ℕ, ◌-◌, ◌*◌, ◌%◌, ◌^◌, sym, refl, arith}
 use Rattle.std.proofs.lemmas.Nat.{one_shl}
-use Rattle.matrix.specs.Grants.{in_range}
-use Rattle.matrix.specs.Stored.{few_places}
 use Rattle.matrix.specs.Tables.{table_places}
 use Rattle.matrix.proofs.Fillings.{range_in}
 use Rattle.grid.specs.Cells.{cell_at}
@@ -11,18 +9,15 @@ use Rattle.grid.proofs.store.changes.GridRegister.delete.Goals as goal
 pub cell_of-at-requires : goal.cell_of-at-requires
 cell_of-at-requires c =
     let s = c.args.self.now in
-    let g = c.args.grant in (record {
-      grant_value = ap (λ (n : ℕ). in_range n g) c.places.ensures
-          ∙ range s.table s.cells.now g s.whole c.in_ok-judge_grant.ensures (cell_at (table_places s.table) g) refl;
-      places_bound = omega (arith, few_places s.table, c.places.ensures);
-    })
+    let g = c.args.grant in
+    range s.table s.cells.now g s.whole c.in_ok-judge_grant.ensures (cell_at (table_places s.table) g) refl
 
 pub invariant_of-self : goal.invariant_of-self
 invariant_of-self c =
     let s = c.args.self.now in
     let g = c.args.grant in
     let ok = c.in_ok-judge_grant.ensures in
-    let at : c.cell_of-at.result ≡ cell_at (table_places s.table) g = c.cell_of-at.ensures.at ∙ ap (λ (m : ℕ). cell_at m g) c.places.ensures in
+    let at : c.cell_of-at.result ≡ cell_at (table_places s.table) g = c.cell_of-at.ensures.at in
     let in' = range_in (table_places s.table) g (range s.table s.cells.now g s.whole ok c.cell_of-at.result at) in record { whole = whole_set s.table s.cells.now g s.whole ok c.cell_of-at.result at _; sound = sound_delete s.table s.cells.now g s.whole ok c.cell_of-at.result at s.sound _ (one_shl (g.right - 1) 32 (omega arith)) (sym c.if-is_held.ensures) }
 
 pub returns-then-is_held : goal.returns-then-is_held
@@ -30,12 +25,12 @@ returns-then-is_held c =
     let s = c.args.self.now in
     let g = c.args.grant in
     let ok = c.in_ok-judge_grant.ensures in
-    let at : c.cell_of-at.result ≡ cell_at (table_places s.table) g = c.cell_of-at.ensures.at ∙ ap (λ (m : ℕ). cell_at m g) c.places.ensures in
+    let at : c.cell_of-at.result ≡ cell_at (table_places s.table) g = c.cell_of-at.ensures.at in
     let in' = range_in (table_places s.table) g (range s.table s.cells.now g s.whole ok c.cell_of-at.result at) in
     let mask : ◌≡◌ {A = ℕ} ((1 * 2 ^ (g.right - 1)) % 4294967296) (2 ^ (g.right - 1)) = one_shl (g.right - 1) 32 (omega arith) in
     record {
       told = ok;
       after = deleted s.table s.cells.now g s.whole ok c.cell_of-at.result at s.sound _ mask (sym c.if-is_held.ensures);
       same = tt;
-      rest = beyond-set s.table s.cells.now g s.whole ok c.cell_of-at.result at _;
+      kept = beyond-set s.table s.cells.now g s.whole ok c.cell_of-at.result at _;
     }

@@ -15,5 +15,5 @@ returns c =
       told = c.in_ok-judge_destroy.ensures;
       after = destroyed s.table c.put.new.self s.cells.now w.cells.now p size put c.in_ok-judge_destroy.ensures c.wipe.ensures.cells;
       same = tt;
-      rest = ap (λ (n : ℕ). drop (n * n) w.cells.now) c.put.ensures.size ∙ c.wipe.ensures.rest;
+      kept = ap (λ (n : ℕ). drop (n * n) w.cells.now) c.put.ensures.size ∙ c.wipe.ensures.rest;
     }
