@@ -1,5 +1,5 @@
 -- The lines of a command, tests and operations: which parameters a line names, creates and destroys.
-use Rattle.std.specs.Prelude.{ℕ, Bool, true, false, ◌||◌, List, Some, None, Option, ◌==◌}
+use Rattle.std.specs.Prelude.{ℕ, Bool, false, ◌||◌, List, is_some, Some, None, Option, ◌==◌}
 use Rattle.std.specs.List.{list_any}
 use Rattle.scheme.specs.declared.lines.Cell.{Cell}
 use Rattle.scheme.specs.declared.lines.Operation.{Operation}
@@ -27,18 +27,15 @@ destroys (Delete c) p = false
 destroys (Create q) p = false
 destroys (Destroy q) p = q == p
 
-abbrev pub enters : Operation → Bool
-enters (Enter c) = true
-enters (Delete c) = false
-enters (Create p) = false
-enters (Destroy p) = false
-
 -- the cell that an enter enters, none for another operation
 abbrev pub entered_cell : Operation → Option Cell
 entered_cell (Enter c) = Some c
 entered_cell (Delete c) = None
 entered_cell (Create p) = None
 entered_cell (Destroy p) = None
+
+abbrev pub enters : Operation → Bool
+enters o = is_some (entered_cell o)
 
 -- some test names a parameter; some operation names, creates or destroys it
 abbrev pub test_named : List Cell → ℕ → Bool

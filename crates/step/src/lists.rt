@@ -17,6 +17,7 @@ pub fn run_steps<R: Register>(
     steps: &[Step],
 ) -> Result<(), FirstRefusal<StepFault>>
     ensures runs { RunsAll (rules_of scheme.now.table) (R.Matrix.means register.old) (map step_of steps.now) result (R.Matrix.means register.new) }
+    ensures kept { R.Matrix.frame.keeps register.old register.new }
     ensures laws { GrantingLaws }
 {
     // the loop of `matrix::enter_all` over steps; one loop with a closure would leave both their clauses, and each a proof of its closure

@@ -9,12 +9,13 @@ use Rattle.step.proofs.Sequences.{ran-more, ran_all, stopped}
 use Rattle.step.proofs.lists.run_steps.Goals as goal
 
 pub loop-position-init : goal.loop-position-init
-loop-position-init g c = none refl
+loop-position-init g c = (none refl, g.R.Matrix.frame.begins c.args.register.now)
 
 pub loop-position-preserved : goal.loop-position-preserved
 loop-position-preserved g c =
     let e = c.in_default.ensures in
-    ran-more c.args.steps.now c.loop-position.position _ _ _ c.loop-position-test.true c.command.ensures c.places.ensures c.loop-position.invariant e.told e.after
+    let all = ran-more c.args.steps.now c.loop-position.position _ _ _ c.loop-position-test.true c.command.ensures c.places.ensures c.loop-position.invariant.0 e.told e.after in
+    (all, g.R.Matrix.frame.chains c.args.register.now c.loop-position.register c.run_step.new.register c.loop-position.invariant.1 e.kept)
 
 pub returns-in-Err : goal.returns-in-Err
 returns-in-Err g c =
@@ -22,7 +23,8 @@ returns-in-Err g c =
     let means = g.R.Matrix.means in
     record {
       runs = stopped (means c.loop-position.register) (means c.run_step.new.register) c.args.steps.now c.loop-position.position _ _ _ c.in-Err.fault
-          c.loop-position-test.true c.command.ensures c.places.ensures (ap means e.same) c.loop-position.invariant e.told;
+          c.loop-position-test.true c.command.ensures c.places.ensures (ap means e.same) c.loop-position.invariant.0 e.told;
+      kept = g.R.Matrix.frame.chains c.args.register.now c.loop-position.register c.run_step.new.register c.loop-position.invariant.1 e.kept;
       laws = granting_laws;
     }
 
@@ -32,6 +34,7 @@ returns g c =
     let σ = rules_of c.args.scheme.now.table in
     record {
       runs = ran_all (subst (λ (xs : List Step). AllRan σ (means c.args.register.now) (map step_of xs) (means c.loop-position.register))
-          (take_all c.loop-position.position c.args.steps.now c.loop-position-test.false) c.loop-position.invariant);
+          (take_all c.loop-position.position c.args.steps.now c.loop-position-test.false) c.loop-position.invariant.0);
+      kept = c.loop-position.invariant.1;
       laws = granting_laws;
     }
