@@ -25,7 +25,7 @@ use Rattle.lot.specs.Marked.{first_command, second_command, four_rules, four_pla
 abbrev plan-step : ℕ → ℕ → ℕ → ℕ → PlanStep
 plan-step k a b c = record {
   step = record { command = k; places = record { records = a ∷ b ∷ c ∷ []; used = 3 } };
-  marks = record { records = true ∷ []; used = 1 };
+  marks = true ∷ false ∷ false ∷ false ∷ false ∷ false ∷ [];
 }
 
 abbrev pub four_plan : List PlanStep
