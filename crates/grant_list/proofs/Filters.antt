@@ -58,7 +58,7 @@ module _ {X : Type 0} (q : X → Bool) (xs ys : List X) (i : ℕ) (pos : 0 < i) 
       same ∙ ap (λ (l : List X). get_or l (i - 1) x) is
       ∙ get_or_append_left (take i xs) (filter q (drop i xs)) x (i - 1) (omega (arith, front_long)) ∙ get_or-take i xs (i - 1) x (omega arith)
 
-  turn_none : None ≡ slice_get ys (i - 1) → ⊥
+  pub turn_none : None ≡ slice_get ys (i - 1) → ⊥
   turn_none e = let z : ◌≡◌ {A = ℕ} 0 1 = past ys turn_lt e in omega arith
     where
       past : (l : List X) → i - 1 < length l → None ≡ slice_get l (i - 1) → ◌≡◌ {A = ℕ} 0 1
@@ -81,10 +81,10 @@ module _ {X : Type 0} (q : X → Bool) (xs ys : List X) (i : ℕ) (pos : 0 < i) 
         ∙ ap₂ (λ (y : X) (n : ℕ). y ∷ drop n xs) (sym (turn_some x read)) (sym next))
         ∙ ap (λ (t : Bool). take j xs ++ cond t (x ∷ filter q (drop i xs)) (filter q (drop i xs))) e)
 
-    turn_stays : q x ≡ true → ys ≡ take (i - 1) xs ++ filter q (drop (i - 1) xs)
+    pub turn_stays : q x ≡ true → ys ≡ take (i - 1) xs ++ filter q (drop (i - 1) xs)
     turn_stays e = before ∙ after true e
 
-    turn_goes : (r : Bool) → q x ≡ false → r ≡ ltb (i - 1) (length ys) → with_out r (i - 1) ys ≡ take (i - 1) xs ++ filter q (drop (i - 1) xs)
+    pub turn_goes : (r : Bool) → q x ≡ false → r ≡ ltb (i - 1) (length ys) → with_out r (i - 1) ys ≡ take (i - 1) xs ++ filter q (drop (i - 1) xs)
     turn_goes r e told =
         ap (λ (b : Bool). with_out b (i - 1) ys) (told ∙ lt-ltb (i - 1) (length ys) turn_lt)
         ∙ ap (λ (l : List X). remove l (i - 1)) before

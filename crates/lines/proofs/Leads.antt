@@ -15,7 +15,7 @@ none_leads bytes h [] is = is.1
 none_leads bytes h (n ∷ ns) is = absurd (h (n, spell_fields (map number ns)) (is.0.0, ended_fields (map number ns), is.1))
 
 module _ (bytes : List ℕ) (n : ℕ) (rest : List ℕ) (lead : Leads bytes (n, rest)) where
-  leads_shorter : 2 + length rest ≤ length bytes
+  pub leads_shorter : 2 + length rest ≤ length bytes
   leads_shorter = omega (arith, simp length-append at (ap length lead.2), decimal_nonempty n (omega arith))
 
   -- the fields after the first are what follows it

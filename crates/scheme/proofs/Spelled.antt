@@ -16,13 +16,13 @@ use Rattle.scheme.proofs.Apart.{older_append}
 
 -- the lines of a command that was just opened
 module _ (c : CommandRules) (s : Rules) where
-  opened_some : no_commands (with_command c s) ≡ false
+  pub opened_some : no_commands (with_command c s) ≡ false
   opened_some = grind (arith, nat_tests, length_push s.commands c)
 
-  opened_last : last_of (with_command c s).commands ≡ c
+  pub opened_last : last_of (with_command c s).commands ≡ c
   opened_last = grind (arith, length_push s.commands c, get_or_push s.commands c (opened_with []))
 
-  opened_changed : (f : CommandRules → CommandRules) → on_last f (with_command c s) ≡ with_command (f c) s
+  pub opened_changed : (f : CommandRules → CommandRules) → on_last f (with_command c s) ≡ with_command (f c) s
   opened_changed f = grind (arith, opened_last, length_push s.commands c, set_at s.commands c [] (f c))
 
 types-spelled : (before ks : List TypeKind) → length before + length ks ≤ 16 → written_by (record { types = before; commands = [] }) (map declares ks) ≡ Some (record { types = before ++ ks; commands = [] })
